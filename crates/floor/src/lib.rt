@@ -1,0 +1,40 @@
+// Lattices of numbered cells, and guides to a goal over them.
+ghost use mathlib.Core.Path.{_≡_};
+ghost use denote.Ref.{now};
+ghost use Rattle.model.specs.Lattice.{Lattice as Grid, Lawful, Guide as Aim, Guiding, lead};
+
+// Cells that are numbered from 0, with up to eight neighbours each, one in each direction.
+pub trait Lattice {
+    ghost grid: { Self → Grid };
+
+    law lawful: { (l : Self) → Lawful (grid l) };
+
+    fn size(&self) -> u32
+        ensures { λ r. ⌜ r ≡ grid (now (self .entry)) .size ⌝ };
+
+    fn beside(&self, cell: u32, direction: u8) -> Option<u32>
+        ensures { λ r. ⌜ r ≡ grid (now (self .entry)) .beside cell direction ⌝ };
+
+    fn cost(&self, direction: u8) -> u8
+        ensures { λ r. ⌜ r ≡ grid (now (self .entry)) .cost direction ⌝ };
+
+    fn opposite(&self, direction: u8) -> u8
+        ensures { λ r. ⌜ r ≡ grid (now (self .entry)) .opposite direction ⌝ };
+}
+
+// A lattice with the distance of its cells to one goal.
+pub trait Guide: Lattice {
+    ghost aim: { Self → Aim };
+
+    law guiding: { (g : Self) → Guiding (Self·Lattice .grid g) (aim g) };
+
+    fn goal(&self) -> u32
+        ensures { λ r. ⌜ r ≡ aim (now (self .entry)) .goal ⌝ };
+
+    fn distance(&self, cell: u32) -> Option<u32>
+        ensures { λ r. ⌜ r ≡ aim (now (self .entry)) .distance cell ⌝ };
+
+    // The first direction whose neighbour is nearer by just the cost of the step, or 0.
+    fn lead(&self, cell: u32) -> u8
+        ensures { λ r. ⌜ r ≡ lead (Self·Lattice .grid (now (self .entry))) (aim (now (self .entry))) cell ⌝ };
+}
