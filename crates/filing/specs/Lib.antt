@@ -1,0 +1,4 @@
+-- What the contracts of the texts cite.
+pub mod Faults
+pub mod Headings
+pub mod Fields

@@ -1,0 +1,3 @@
+// The texts of the planner: site texts and filed records.
+pub mod fault;
+pub mod heading;
