@@ -6,6 +6,11 @@ ghost use denote.Ref.{now};
 ghost use Rattle.model.specs.Ground.{Ground, feels, lands, can-step};
 use floor::Lattice;
 
+pub mod part;
+pub mod rocks;
+pub mod sheet;
+pub mod unfit;
+
 // What drives over a lattice of its own kind, feels the rock beside it, and stands on a passable cell.
 pub trait Carrier {
     type Floor: Lattice;

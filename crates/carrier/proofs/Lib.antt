@@ -1,0 +1,4 @@
+pub mod Parting
+pub mod Feeling
+pub mod Sheets
+pub mod Stepping

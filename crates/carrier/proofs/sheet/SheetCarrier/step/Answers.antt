@@ -1,0 +1,38 @@
+use mathlib.Core.Path.{_≡_, refl}
+use mathlib.Core.Bool.{false, Bool-set}
+use Prim.Native.Nat.{_<_}
+use native.Mathlib.Bridge.{le-prop}
+use native.Mathlib.Nat.{ℕ-set}
+use native.Mathlib.Omega.{arith}
+use borrow.Author.Tests.{clash}
+use mathlib.Core.Path.{sym}
+use Rattle.std.specs.Of.Vec.{vec-items, vec-len}
+use Rattle.carrier.specs.declared.sheet.Sheet.{Sheet}
+use Rattle.carrier.specs.Parts.{part-of}
+use Rattle.carrier.specs.Sheets.{sheet-rock}
+use Rattle.carrier.proofs.Stepping.{steps-nowhere, steps-free}
+use Rattle.carrier.proofs.sheet.SheetCarrier.step.Needs as need
+
+-- each invariant has one proof at most
+same : {L : Type 0} (s : Sheet L) (long : vec-len (s .rocks .bytes) ≡ s .floor .size) (inside : s .at < s .floor .size) («open» : sheet-rock (vec-items (s .rocks .bytes)) (s .at) ≡ false) →
+    s ≡ record { floor = s .floor; rocks = s .rocks; at = s .at; long = long; inside = inside; «open» = «open» }
+same s long inside «open» i = record {
+  floor = s .floor;
+  rocks = s .rocks;
+  at = s .at;
+  long = ℕ-set _ _ (s .long) long i;
+  inside = le-prop (s .inside) inside i;
+  «open» = Bool-set _ _ (s .«open») «open» i;
+}
+
+pub returns-in-None : need.returns-in-None
+returns-in-None g c =
+    let s = c .args .self .now in
+    let stays = steps-nowhere (part-of (g .L·Lattice .grid (s .floor .lattice)) (s .floor .size)) (record { rock = sheet-rock (vec-items (s .rocks .bytes)); at = s .at }) (c .args .direction) (c .in-None .ensures tt) in
+    record { answers = stays .0; moves = stays .1; unmoved = λ _. sym (same s _ _ _); stays = refl }
+
+pub returns-in-Some : need.returns-in-Some
+returns-in-Some g c =
+    let s = c .args .self .now in
+    let moves = steps-free (part-of (g .L·Lattice .grid (s .floor .lattice)) (s .floor .size)) (record { rock = sheet-rock (vec-items (s .rocks .bytes)); at = s .at }) (c .args .direction) (c .in-Some .next) (c .in-Some .ensures tt) in
+    record { answers = moves .0; moves = moves .1; unmoved = λ e. absurd (clash (sym e)); stays = refl }
