@@ -1,0 +1,38 @@
+-- The records of a board, by cell.
+use mathlib.Core.List.{List, [], _∷_}
+use Prim.Native.Nat.{ℕ, zero, suc}
+use Rattle.std.specs.declared.option.Option.{Option}
+use Rattle.std.specs.declared.option.Option.the-variants.{Some, None}
+use Rattle.std.specs.Finite.{nth}
+use Rattle.model.specs.declared.Mark.{Mark}
+use Rattle.model.specs.declared.Mark.the-variants as mark
+use Rattle.drive.specs.declared.board.Square.{Square}
+
+-- a list with one element changed
+abbrev pub changed : {X : Type 0} → (X → X) → List X → ℕ → List X
+changed f [] i = []
+changed f (x ∷ xs) zero = f x ∷ xs
+changed f (x ∷ xs) (suc i) = x ∷ changed f xs i
+
+module _ {M : Type 0} where
+  -- the mark and the pointer of a record; where there is none the cell is unseen and has no pointer
+  abbrev pub mark-in : Option (Square M) → Mark
+  mark-in None = mark.Unseen
+  mark-in (Some x) = x .mark
+
+  abbrev pub pointer-in : Option (Square M) → ℕ
+  pointer-in None = 0
+  pointer-in (Some x) = x .pointer
+
+  abbrev pub mark-at : List (Square M) → ℕ → Mark
+  mark-at board a = mark-in (nth board a)
+
+  abbrev pub pointer-at : List (Square M) → ℕ → ℕ
+  pointer-at board a = pointer-in (nth board a)
+
+  -- a record with another mark or pointer
+  abbrev pub with-mark : Mark → Square M → Square M
+  with-mark m x = record { mark = m; pointer = x .pointer; paint = x .paint; search = x .search; stage = x .stage }
+
+  abbrev pub with-pointer : ℕ → Square M → Square M
+  with-pointer d x = record { mark = x .mark; pointer = d; paint = x .paint; search = x .search; stage = x .stage }
