@@ -1,3 +1,4 @@
 pub mod Boards
 pub mod Laying
 pub mod Refusing
+pub mod Going

@@ -3,3 +3,6 @@ pub mod Refusals
 pub mod Board
 pub mod Worlds
 pub mod Beginning
+pub mod Telling
+pub mod Calls
+pub mod Going
