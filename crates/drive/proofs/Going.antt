@@ -28,7 +28,7 @@ module _ {G M : Type 0} (d : Drive G) (board : List (Square M)) (guide floor : L
       go-refusal d board guide floor ground ≡ refuse-if (not t) StepRefused
   go-refused here along ok t can =
       let passed : call-refusal d Go (record { records = length board; entries = None; at = ground .at }) (guide .size) ≡ None =
-          ap (λ a. call-refusal d Go (record { records = length board; entries = None; at = a }) (guide .size)) (sym here) ∙ allowed-is _ ok in
+      ap (λ a. call-refusal d Go (record { records = length board; entries = None; at = a }) (guide .size)) (sym here) ∙ allowed-is _ ok in
       ap (λ o. or-else o (refuse-if (not (can-step floor ground (onward d board))) StepRefused)) passed
       ∙ ap (λ x. refuse-if (not (can-step floor ground x)) StepRefused) (sym along)
       ∙ ap (λ b. refuse-if (not b) StepRefused) (sym can)

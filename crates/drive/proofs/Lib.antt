@@ -2,3 +2,5 @@ pub mod Boards
 pub mod Laying
 pub mod Refusing
 pub mod Going
+pub mod Towards
+pub mod Marking

@@ -7,6 +7,7 @@ use Rattle.std.specs.Finite.{nth}
 use Rattle.model.specs.declared.Mark.{Mark}
 use Rattle.model.specs.declared.Mark.the-variants as mark
 use Rattle.drive.specs.declared.board.Square.{Square}
+use Rattle.drive.specs.declared.board.Stage.{Stage}
 
 -- a list with one element changed
 abbrev pub changed : {X : Type 0} → (X → X) → List X → ℕ → List X
@@ -30,9 +31,12 @@ module _ {M : Type 0} where
   abbrev pub pointer-at : List (Square M) → ℕ → ℕ
   pointer-at board a = pointer-in (nth board a)
 
-  -- a record with another mark or pointer
+  -- a record with another mark or pointer, or with a stage in the search of a number
   abbrev pub with-mark : Mark → Square M → Square M
   with-mark m x = record { mark = m; pointer = x .pointer; paint = x .paint; search = x .search; stage = x .stage }
 
   abbrev pub with-pointer : ℕ → Square M → Square M
   with-pointer d x = record { mark = x .mark; pointer = d; paint = x .paint; search = x .search; stage = x .stage }
+
+  abbrev pub with-stage : ℕ → Stage M → Square M → Square M
+  with-stage n t x = record { mark = x .mark; pointer = x .pointer; paint = x .paint; search = n; stage = t }

@@ -6,3 +6,4 @@ pub mod Beginning
 pub mod Telling
 pub mod Calls
 pub mod Going
+pub mod Looking

@@ -2,15 +2,15 @@
 ghost use mathlib.Core.Path.{_≡_};
 ghost use lib.ListN.{set};
 ghost use Rattle.std.specs.Finite.{nth};
-ghost use Rattle.drive.specs.Board.{mark-at, pointer-at, with-mark, with-pointer, changed};
+ghost use Rattle.drive.specs.Board.{mark-at, pointer-at, with-mark, with-pointer, with-stage, changed};
 use model::Mark;
 
 // A cell in one search: not reached, or waiting, or taken, with its measure and the cell that it was reached from.
 #[derive(Clone, Copy)]
 pub enum Stage<M> {
     Idle,
-    Waiting(M, u16),
-    Taken(M, u16),
+    Waiting(M, u32),
+    Taken(M, u32),
 }
 
 // A cell's mark, its pointer (a direction, or 0), its paint (the number of a search),
@@ -96,5 +96,22 @@ pub fn set_pointer<M: Copy>(board: &mut [Square<M>], cell: u32, pointer: u8)
 {
     if let Some(square) = record_of(board, cell) {
         put(board, cell, Square { pointer, ..square });
+    }
+}
+
+// Sets the stage of a cell of the board in the search of a number.
+pub fn set_stage<M: Copy>(board: &mut [Square<M>], cell: u32, search: u16, stage: Stage<M>)
+    ensures { λ _. ⌜ now (board .exit) ≡ changed (with-stage search stage) (now (board .entry)) cell ⌝ }
+{
+    if let Some(square) = record_of(board, cell) {
+        put(
+            board,
+            cell,
+            Square {
+                search,
+                stage,
+                ..square
+            },
+        );
     }
 }

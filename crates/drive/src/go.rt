@@ -17,7 +17,11 @@ use model::Phase;
 
 impl<G: Guide> Drive<G> {
     // The cell that the carrier stepped onto.
-    pub fn go<C: Carrier, M: Measure>(&mut self, carrier: &mut C, board: &[Square<M>]) -> Result<u32, Refusal>
+    pub fn go<C: Carrier, M: Measure>(
+        &mut self,
+        carrier: &mut C,
+        board: &[Square<M>],
+    ) -> Result<u32, Refusal>
         ensures refused { λ r. ⌜ refused r (λ e. (go-refusal (now (self .entry)) (now (board .entry)) (G·Lattice .grid (now (self .entry) .guide)) (Floor·Lattice .grid (C·Carrier .floor (now (carrier .entry)))) (C·Carrier .ground (now (carrier .entry))) ≡ Some e) × (now (self .exit) ≡ now (self .entry)) × (now (carrier .exit) ≡ now (carrier .entry))) ⌝ }
         ensures accepted { λ r. ⌜ made r (λ cell. (go-refusal (now (self .entry)) (now (board .entry)) (G·Lattice .grid (now (self .entry) .guide)) (Floor·Lattice .grid (C·Carrier .floor (now (carrier .entry)))) (C·Carrier .ground (now (carrier .entry))) ≡ None) × Stepped (now (self .entry)) (now (board .entry)) (Floor·Lattice .grid (C·Carrier .floor (now (carrier .entry)))) (C·Carrier .ground (now (carrier .entry))) (C·Carrier .ground (now (carrier .exit))) cell × (now (self .exit) ≡ moved-to (now (self .entry)) cell (G·Lattice .grid (now (self .entry) .guide) .cost (pointer-at (now (board .entry)) (now (self .entry) .cell))) (G·Guide .aim (now (self .entry) .guide) .goal))) ⌝ }
         ensures stays { λ _. ⌜ C·Carrier .floor (now (carrier .exit)) ≡ C·Carrier .floor (now (carrier .entry)) ⌝ }

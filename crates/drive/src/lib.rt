@@ -4,5 +4,6 @@ pub mod board;
 mod call;
 pub mod drive;
 pub mod go;
+pub mod look;
 pub mod refusal;
 pub mod tell;

@@ -1,0 +1,150 @@
+// Feeling the neighbours of the carrier's cell.
+ghost use mathlib.Core.Bool.{not};
+ghost use mathlib.Core.Path.{_≡_};
+ghost use denote.Ref.{now};
+ghost use Prim.Native.Nat.{_+_, _<_};
+ghost use Rattle.model.specs.Lattice.{is};
+ghost use Rattle.model.specs.Plain.{is-rock};
+ghost use Rattle.drive.specs.Board.{mark-at, pointer-at};
+ghost use Rattle.drive.specs.Looking.{direction-bit, felt-mark, Remade, marked-by};
+use crate::board::Square;
+use crate::board::Stage;
+use crate::board::mark;
+use crate::board::pointer;
+use crate::board::set_mark;
+use crate::board::set_pointer;
+use crate::board::set_stage;
+use crate::call::Call;
+use crate::call::Lent;
+use crate::drive::Drive;
+use crate::refusal::Refusal;
+use carrier::Carrier;
+use carrier::rocks::Rocks;
+use carrier::rocks::felt_at;
+use floor::Guide;
+use floor::Lattice;
+use measure::Measure;
+use measure::queue::Entry;
+use measure::queue::push;
+use model::Mark;
+use model::Phase;
+
+impl<G: Guide> Drive<G> {
+    // The felt byte, and how many of its rock cells are newly found. Pointers to those are cut;
+    // where that leaves the carrier's own cell without a pointer, a search begins there.
+    pub fn look<C: Carrier, M: Measure>(
+        &mut self,
+        carrier: &C,
+        board: &mut [Square<M>],
+        queue: &mut [Entry<M>],
+    ) -> Result<(u8, u32), Refusal> {
+        let lent = Lent {
+            records: board.len(),
+            entries: Some(queue.len()),
+            at: carrier.cell(),
+        };
+        self.check(Call::Look, lent)?;
+        let felt = carrier.feel();
+        let fresh = felt & felt_at(&self.guide, &Unmarked { board }, self.cell);
+        mark_around(&self.guide, self.cell, felt, board);
+        cut_around(&self.guide, self.cell, fresh, board);
+        let new = fresh.count_ones();
+        self.found = self.found.saturating_add(new);
+        if pointer(board, self.cell) == 0 {
+            self.begin_search(board, queue);
+        } else {
+            self.phase = Phase::Ready;
+        }
+        Ok((felt, new))
+    }
+
+    // Begins a search: only the carrier's cell waits, at zero.
+    fn begin_search<M: Measure>(&mut self, board: &mut [Square<M>], queue: &mut [Entry<M>]) {
+        self.phase = Phase::Searching;
+        self.searches = self.searches.saturating_add(1);
+        let value = M::zero();
+        let cell = self.cell;
+        set_stage(board, cell, self.searches, Stage::Waiting(value, cell));
+        self.waiting = push(queue, 0, Entry { value, cell }).unwrap_or(0);
+    }
+}
+
+// The cells that are not marked as rock.
+#[derive(Drop)]
+struct Unmarked<'a, M> {
+    board: &'a [Square<M>],
+}
+
+impl<M: Copy> Rocks for Unmarked<'_, M> as UnmarkedRocks {
+    ghost rock = { λ s a. not (is-rock (mark-at (now (s .board)) a)) };
+
+    fn is_rock(&self, cell: u32) -> bool {
+        match mark(self.board, cell) {
+            Mark::Rock => false,
+            Mark::Unseen | Mark::Passable => true,
+        }
+    }
+}
+
+// Cuts the pointers to the neighbours whose bits are set.
+fn cut_around<L: Lattice, M: Copy>(lattice: &L, here: u32, rocks: u8, board: &mut [Square<M>]) {
+    for bit in 0..8u8 {
+        if has_bit(rocks, bit)
+            && let Some(rock) = lattice.beside(here, bit + 1)
+        {
+            cut_to(lattice, rock, board);
+        }
+    }
+}
+
+// Cuts the pointers to a cell, which are its neighbours'.
+fn cut_to<L: Lattice, M: Copy>(lattice: &L, rock: u32, board: &mut [Square<M>]) {
+    for direction in 1..=8u8 {
+        if let Some(cell) = lattice.beside(rock, direction)
+            && points_to(lattice, board, cell, rock)
+        {
+            set_pointer(board, cell, 0);
+        }
+    }
+}
+
+// Whether the pointer of a cell leads to another.
+fn points_to<L: Lattice, M: Copy>(lattice: &L, board: &[Square<M>], cell: u32, to: u32) -> bool
+    ensures { λ r. ⌜ r ≡ is (L·Lattice .grid (now (lattice .entry)) .beside cell (pointer-at (now (board .entry)) cell)) to ⌝ }
+{
+    match lattice.beside(cell, pointer(board, cell)) {
+        Some(next) => next == to,
+        None => false,
+    }
+}
+
+// Marks the neighbours of a cell, by the felt byte.
+fn mark_around<L: Lattice, M: Copy>(lattice: &L, here: u32, felt: u8, board: &mut [Square<M>])
+    ensures { λ _. ⌜ Remade (marked-by (L·Lattice .grid (now (lattice .entry))) here felt 8) (now (board .entry)) (now (board .exit)) ⌝ }
+{
+    for bit in 0..8u8 {
+        if let Some(next) = lattice.beside(here, bit + 1) {
+            set_mark(board, next, felt_mark(felt, bit));
+        }
+    }
+}
+
+// The mark of the neighbour whose bit is given.
+fn felt_mark(felt: u8, bit: u8) -> Mark
+    requires { ⌜ bit < 8 ⌝ }
+    ensures { λ r. ⌜ r ≡ felt-mark (direction-bit felt (bit + 1)) ⌝ }
+{
+    if has_bit(felt, bit) {
+        Mark::Rock
+    } else {
+        Mark::Passable
+    }
+}
+
+// Whether a bit of a byte is set: it is that of direction bit + 1.
+fn has_bit(byte: u8, bit: u8) -> bool
+    requires { ⌜ bit < 8 ⌝ }
+    ensures { λ r. ⌜ r ≡ direction-bit byte (bit + 1) ⌝ }
+{
+    byte >> bit & 1 == 1
+}
