@@ -1,0 +1,2 @@
+-- Why the floors are lawful and their guides lead to the goal.
+pub mod Leads
