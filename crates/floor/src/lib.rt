@@ -3,6 +3,10 @@ ghost use mathlib.Core.Path.{_≡_};
 ghost use denote.Ref.{now};
 ghost use Rattle.model.specs.Lattice.{Lattice as Grid, Lawful, Guide as Aim, Guiding, lead, same-distance, plus};
 
+mod directions;
+pub mod extent;
+pub mod lattices;
+
 // Cells that are numbered from 0, with up to eight neighbours each, one in each direction.
 pub trait Lattice {
     ghost grid: { Self → Grid };
