@@ -4,3 +4,5 @@ pub mod Cells
 pub mod Ways
 pub mod Steps
 pub mod Lawful
+pub mod Nearing
+pub mod Guiding

@@ -1,8 +1,9 @@
 // The two lattices on a floor of square cells.
 ghost use mathlib.Core.Path.{_≡_};
-ghost use Rattle.model.specs.Floors.{streets, kings};
+ghost use Rattle.model.specs.Floors.{streets, kings, straight, slanting, towards-goal};
 ghost use Rattle.floor.specs.Sizes.{Made};
 use crate::Lattice;
+use crate::Metric;
 use crate::directions::facing;
 use crate::directions::is_direction;
 use crate::directions::is_straight;
@@ -97,5 +98,25 @@ pub impl Lattice for Kings as KingsLattice {
         } else {
             0
         }
+    }
+}
+
+pub impl Metric for Streets as StreetsMetric {
+    ghost towards = { λ s. towards-goal straight (s .extent .width) (s .extent .height) };
+
+    fn distance_to(&self, goal: u32, cell: u32) -> Option<u32> {
+        let (columns, rows) = self.extent.differences(cell, goal)?;
+        Some(5 * (columns + rows))
+    }
+}
+
+pub impl Metric for Kings as KingsMetric {
+    ghost towards = { λ k. towards-goal slanting (k .extent .width) (k .extent .height) };
+
+    fn distance_to(&self, goal: u32, cell: u32) -> Option<u32> {
+        let (columns, rows) = self.extent.differences(cell, goal)?;
+        let less = columns.min(rows);
+        let more = columns.max(rows);
+        Some(7 * less + 5 * (more - less))
     }
 }

@@ -1,8 +1,10 @@
 // Lattices of numbered cells, and guides to a goal over them.
 ghost use mathlib.Core.Path.{_≡_};
+ghost use Prim.Native.Nat.{ℕ};
 ghost use denote.Ref.{now};
 ghost use Rattle.model.specs.Lattice.{Lattice as Grid, Lawful, Guide as Aim, Guiding, lead, same-distance, plus};
 
+pub mod aiming;
 mod directions;
 pub mod extent;
 pub mod lattices;
@@ -53,6 +55,19 @@ pub trait Guide: Lattice {
         }
         0
     }
+}
+
+// A lattice that knows the distance from each of its cells to whatever goal.
+pub trait Metric: Lattice {
+    // the goal and the distances to it
+    ghost towards: { Self → ℕ → Aim };
+
+    law aims: { (l : Self) (goal : ℕ) → towards l goal .goal ≡ goal };
+
+    law guides: { (l : Self) (goal : ℕ) → Guiding (Self·Lattice .grid l) (towards l goal) };
+
+    fn distance_to(&self, goal: u32, cell: u32) -> Option<u32>
+        ensures { λ r. ⌜ r ≡ towards (now (self .entry)) goal .distance cell ⌝ };
 }
 
 // Whether there are two distances and the first is the second with the cost added.
