@@ -67,7 +67,7 @@ module _ (far : ℕ → ℕ → ℕ) (uses : ℕ → Bool) (w h goal : ℕ) (siz
       let there = goes-there uses w h sized in-use a (k .d) (k .b) (k .in-use) (k .step) in
       let bounds = used-bounds (k .d) (in-use (k .d) (k .in-use)) in
       none-passes 8 (nearer (on-floor uses w h) (towards-goal far w h goal) a) none (k .d) (bounds .0) (bounds .1)
-      (nearer-at (on-floor uses w h) (towards-goal far w h goal) a (k .d) (k .b) there
+      (sym (nearer-at (on-floor uses w h) (towards-goal far w h goal) a (k .d) (k .b) (sym there))
       ∙ ap₂ (λ x y. same-distance (plus x (price (k .d))) y) (is-far (k .b) (k .step .to) m) (is-far a l m)
       ∙ eq-eqb (between far w a goal) (between far w (k .b) goal + price (k .d)) (sym (k .sum)))
 

@@ -60,12 +60,15 @@ first-here d m p l h e t =
     let up : suc (d - 1) ≡ d = omega arith in
     sym (found-first (d - 1) m p e (ap p up ∙ t) (omega arith) ∙ up)
 
+pub none-of-all : (d n : ℕ) (p : ℕ → Bool) → d - 1 ≡ n → first-direction (d - 1) p ≡ 0 → 0 ≡ first-direction n p
+none-of-all d n p e z = let P : ℕ → Type 0 = λ k. 0 ≡ first-direction k p in subst P e (sym z)
+
 -- whether the neighbour in a direction is nearer by just the cost of the step
 abbrev pub nearer : Lattice → Guide → ℕ → ℕ → Bool
 nearer l g a d = same-distance (plus (then-at (l .beside a d) (g .distance)) (l .cost d)) (g .distance a)
 
-pub nearer-at : (l : Lattice) (g : Guide) (a d b : ℕ) → l .beside a d ≡ Some b → nearer l g a d ≡ same-distance (plus (g .distance b) (l .cost d)) (g .distance a)
+pub nearer-at : (l : Lattice) (g : Guide) (a d b : ℕ) → Some b ≡ l .beside a d → same-distance (plus (g .distance b) (l .cost d)) (g .distance a) ≡ nearer l g a d
 nearer-at l g a d b e = ap (λ o. same-distance (plus (then-at o (g .distance)) (l .cost d)) (g .distance a)) e
 
-pub nearer-none : (l : Lattice) (g : Guide) (a d : ℕ) → l .beside a d ≡ None → nearer l g a d ≡ false
-nearer-none l g a d e = ap (λ o. same-distance (plus (then-at o (g .distance)) (l .cost d)) (g .distance a)) e
+pub nearer-none : (l : Lattice) (g : Guide) (a d : ℕ) → None ≡ l .beside a d → nearer l g a d ≡ false
+nearer-none l g a d e = sym (ap (λ o. same-distance (plus (then-at o (g .distance)) (l .cost d)) (g .distance a)) e)

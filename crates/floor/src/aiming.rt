@@ -50,3 +50,46 @@ pub impl<L: Metric> Guide for Aimed<L> as AimedGuide {
         self.lattice.distance_to(self.goal, cell)
     }
 }
+
+#[cfg(test)]
+mod tests {
+    use super::*;
+    use crate::extent::SizeFault;
+    use crate::extent::SizeFaultDebug;
+    use crate::extent::SizeFaultPartialEq;
+    use crate::lattices::Kings;
+    use crate::lattices::KingsLattice;
+    use crate::lattices::KingsMetric;
+    use crate::lattices::Streets;
+    use crate::lattices::StreetsLattice;
+    use crate::lattices::StreetsMetric;
+    use std::test::*;
+
+    #[test]
+    fn kings_go_aslant() -> Result<(), Fail> {
+        let kings = Kings::new(4, 4)?;
+        let right = Aimed::new(kings, 7);
+        check_eq(right.distance(0), Some(17))?;
+        check_eq(right.lead(0), 1)?;
+        let below = Aimed::new(kings, 13);
+        check_eq(below.distance(0), Some(17))?;
+        check_eq(below.lead(0), 2)?;
+        check_eq(Aimed::new(kings, 16).distance(0), None)
+    }
+
+    #[test]
+    fn streets_end_at_the_edge() -> Result<(), Fail> {
+        let streets = Streets::new(3, 2)?;
+        check_eq(streets.beside(2, 1), None)?;
+        check_eq(streets.beside(2, 3), Some(5))?;
+        check_eq(streets.beside(2, 4), None)?;
+        check_eq(Aimed::new(streets, 2).distance(3), Some(15))
+    }
+
+    #[test]
+    fn sizes_are_from_1_to_64() -> Result<(), Fail> {
+        check_eq(Streets::new(0, 0).err(), Some(SizeFault::Width))?;
+        check_eq(Kings::new(64, 65).err(), Some(SizeFault::Height))?;
+        check_eq(Kings::new(64, 64)?.size(), 4096)
+    }
+}

@@ -33,6 +33,12 @@ impl Streets {
             extent: Extent::new(width, height)?,
         })
     }
+
+    pub fn extent(&self) -> Extent
+        ensures { λ r. ⌜ r ≡ now (self .entry) .extent ⌝ }
+    {
+        self.extent
+    }
 }
 
 impl Kings {
@@ -42,6 +48,12 @@ impl Kings {
         Ok(Kings {
             extent: Extent::new(width, height)?,
         })
+    }
+
+    pub fn extent(&self) -> Extent
+        ensures { λ r. ⌜ r ≡ now (self .entry) .extent ⌝ }
+    {
+        self.extent
     }
 }
 

@@ -45,7 +45,7 @@ pub trait Guide: Lattice {
         ensures { λ r. ⌜ r ≡ lead (Self·Lattice .grid (now (self .entry))) (aim (now (self .entry))) cell ⌝ }
     {
         let own = self.distance(cell);
-        for direction in 1..9 {
+        for direction in 1..=8 {
             let Some(next) = self.beside(cell, direction) else {
                 continue;
             };

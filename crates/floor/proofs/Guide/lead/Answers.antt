@@ -1,9 +1,7 @@
-use mathlib.Core.Path.{_≡_, sym, subst}
+use mathlib.Core.Path.{_≡_}
 use mathlib.Core.Bool.{true, false}
-use Prim.Native.Nat.{ℕ, _-_}
 use native.Mathlib.Omega.{arith}
-use Rattle.model.specs.Lattice.{first-direction}
-use Rattle.floor.proofs.Leads.{next-none, first-here, nearer, nearer-at, nearer-none}
+use Rattle.floor.proofs.Leads.{next-none, first-here, none-of-all, nearer, nearer-at, nearer-none}
 use Rattle.floor.proofs.Guide.lead.Needs as need
 
 -- no neighbour in this direction
@@ -12,7 +10,7 @@ loop-direction-again-in-rest g c =
     let l = g .Self·Lattice .grid (c .args .self .now) in
     let a = g .Self·Guide .aim (c .args .self .now) in
     let d = c .loop-direction .direction in
-    next-none d (nearer l a (c .args .cell)) (omega arith) (c .loop-direction .inv) (nearer-none l a (c .args .cell) d (sym (c .in-rest .ensures tt)))
+    next-none d (nearer l a (c .args .cell)) (omega arith) (c .loop-direction .inv) (nearer-none l a (c .args .cell) d (c .in-rest .ensures tt))
 
 -- a neighbour that is not nearer by the cost
 pub loop-direction-again : need.loop-direction-again
@@ -20,7 +18,7 @@ loop-direction-again g c =
     let l = g .Self·Lattice .grid (c .args .self .now) in
     let a = g .Self·Guide .aim (c .args .self .now) in
     let d = c .loop-direction .direction in
-    let test = nearer-at l a (c .args .cell) d (c .in-Some .next) (sym (c .in-Some .ensures tt)) in
+    let test = nearer-at l a (c .args .cell) d (c .in-Some .next) (c .in-Some .ensures tt) in
     let off : nearer l a (c .args .cell) d ≡ false = cc in
     next-none d (nearer l a (c .args .cell)) (omega arith) (c .loop-direction .inv) off
 
@@ -29,7 +27,7 @@ returns-then-is-sum g c =
     let l = g .Self·Lattice .grid (c .args .self .now) in
     let a = g .Self·Guide .aim (c .args .self .now) in
     let d = c .loop-direction .direction in
-    let test = nearer-at l a (c .args .cell) d (c .in-Some .next) (sym (c .in-Some .ensures tt)) in
+    let test = nearer-at l a (c .args .cell) d (c .in-Some .next) (c .in-Some .ensures tt) in
     let leads : nearer l a (c .args .cell) d ≡ true = cc in
     first-here d 8 (nearer l a (c .args .cell)) (omega arith) (omega arith) (c .loop-direction .inv) leads
 
@@ -37,6 +35,4 @@ pub returns : need.returns
 returns g c =
     let l = g .Self·Lattice .grid (c .args .self .now) in
     let a = g .Self·Guide .aim (c .args .self .now) in
-    let P : ℕ → Type 0 = λ n. 0 ≡ first-direction n (nearer l a (c .args .cell)) in
-    let all : c .loop-direction .direction - 1 ≡ 8 = omega arith in
-    subst P all (sym (c .loop-direction .inv))
+    none-of-all (c .loop-direction .direction) 8 (nearer l a (c .args .cell)) (omega arith) (c .loop-direction .inv)
