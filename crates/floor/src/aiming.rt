@@ -7,8 +7,8 @@ use crate::Metric;
 // A lattice that knows its distances, and a goal; a goal that is no cell has none.
 #[derive(Clone, Copy, Debug, PartialEq, Eq)]
 pub struct Aimed<L> {
-    lattice: L,
-    goal: u32,
+    pub lattice: L,
+    pub goal: u32,
 }
 
 impl<L: Lattice> Aimed<L> {
@@ -57,12 +57,12 @@ mod tests {
     use crate::extent::SizeFault;
     use crate::extent::SizeFaultDebug;
     use crate::extent::SizeFaultPartialEq;
-    use crate::lattices::Kings;
-    use crate::lattices::KingsLattice;
-    use crate::lattices::KingsMetric;
-    use crate::lattices::Streets;
-    use crate::lattices::StreetsLattice;
-    use crate::lattices::StreetsMetric;
+    use crate::kings::Kings;
+    use crate::kings::KingsLattice;
+    use crate::kings::KingsMetric;
+    use crate::streets::Streets;
+    use crate::streets::StreetsLattice;
+    use crate::streets::StreetsMetric;
     use std::test::*;
 
     #[test]

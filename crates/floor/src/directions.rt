@@ -1,6 +1,6 @@
 // The eight directions, and those of them that are used.
 ghost use mathlib.Core.Path.{_≡_};
-ghost use mathlib.Core.Bool.{cond, _&&_};
+ghost use mathlib.Core.Bool.{_&&_};
 ghost use Rattle.model.specs.Floors.{used, odd, facing as opposite-of};
 
 pub(crate) fn is_direction(direction: u8) -> bool
@@ -14,13 +14,6 @@ pub(crate) fn is_straight(direction: u8) -> bool
     ensures { λ r. ⌜ r ≡ (used direction && odd direction) ⌝ }
 {
     is_direction(direction) && direction % 2 == 1
-}
-
-// What a step costs: 5 straight on, and 7 for any other direction.
-pub(crate) fn step_cost(direction: u8) -> u8
-    ensures { λ r. ⌜ r ≡ cond (used direction && odd direction) 5 7 ⌝ }
-{
-    if is_straight(direction) { 5 } else { 7 }
 }
 
 // The direction half way round.

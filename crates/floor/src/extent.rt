@@ -5,7 +5,7 @@
 ghost use mathlib.Core.Path.{_≡_};
 ghost use Prim.Native.Nat.{_*_, _<_, _≤_};
 ghost use Rattle.std.specs.Options.{Cases as BySome};
-ghost use Rattle.model.specs.Floors.{floor-beside, shifted, column-way, row-way, up, down};
+ghost use Rattle.model.specs.Floors.{floor-beside, shifted, column-way, row-way, up};
 ghost use Rattle.floor.specs.Sizes.{Made, fault-number};
 ghost use Rattle.floor.specs.Between.{differences as apart};
 
@@ -13,8 +13,8 @@ const LONGEST: u32 = 64;
 
 #[derive(Clone, Copy, Debug, PartialEq, Eq)]
 pub struct Extent {
-    width: u32,
-    height: u32,
+    pub width: u32,
+    pub height: u32,
     ghost sized: { (1 ≤ width) × (width ≤ 64) × (1 ≤ height) × (height ≤ 64) },
 }
 
@@ -46,18 +46,6 @@ impl Extent {
             return Err(SizeFault::Height);
         }
         Ok(Extent { width, height })
-    }
-
-    pub fn width(&self) -> u32
-        ensures { λ r. ⌜ r ≡ now (self .entry) .width ⌝ }
-    {
-        self.width
-    }
-
-    pub fn height(&self) -> u32
-        ensures { λ r. ⌜ r ≡ now (self .entry) .height ⌝ }
-    {
-        self.height
     }
 
     // How many cells there are.

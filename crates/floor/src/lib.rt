@@ -7,7 +7,8 @@ ghost use Rattle.model.specs.Lattice.{Lattice as Grid, Lawful, Guide as Aim, Gu
 pub mod aiming;
 mod directions;
 pub mod extent;
-pub mod lattices;
+pub mod kings;
+pub mod streets;
 
 // Cells that are numbered from 0, with up to eight neighbours each, one in each direction.
 pub trait Lattice {
