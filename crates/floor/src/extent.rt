@@ -3,11 +3,11 @@
 // The cell in column c and row r has the number r * width + c. Direction 1 leads to the next column,
 // 3 to the next row, 5 and 7 lead back, and each even direction is the two beside it at once.
 ghost use mathlib.Core.Path.{_≡_};
-ghost use Prim.Native.Nat.{_*_, _<_, _≤_};
+ghost use Prim.Native.Nat.{_*_, _/_, _%_, _<_, _≤_};
 ghost use Rattle.std.specs.Options.{Cases as BySome};
-ghost use Rattle.model.specs.Floors.{floor-beside, shifted, column-way, row-way, up};
+ghost use Rattle.model.specs.Floors.{floor-beside, shifted, column-way, row-way, up, gap};
 ghost use Rattle.floor.specs.Sizes.{Made, fault-number};
-ghost use Rattle.floor.specs.Between.{differences as apart};
+ghost use Rattle.floor.specs.Between.{differences as differences-of};
 
 const LONGEST: u32 = 64;
 
@@ -55,6 +55,18 @@ impl Extent {
         self.width * self.height
     }
 
+    pub fn column(&self, cell: u32) -> u32
+        ensures { λ r. ⌜ r ≡ cell % now (self .entry) .width ⌝ }
+    {
+        cell % self.width
+    }
+
+    pub fn row(&self, cell: u32) -> u32
+        ensures { λ r. ⌜ r ≡ cell / now (self .entry) .width ⌝ }
+    {
+        cell / self.width
+    }
+
     // The neighbour of a cell, or `None` across the edge and from a number that is no cell.
     pub fn beside(&self, cell: u32, direction: u8) -> Option<u32>
         ensures { λ r. ⌜ r ≡ floor-beside (now (self .entry) .width) (now (self .entry) .height) cell direction ⌝ }
@@ -62,24 +74,33 @@ impl Extent {
         if cell >= self.size() {
             return None;
         }
-        let column = column_beside(cell % self.width, self.width, direction)?;
-        let row = row_beside(cell / self.width, self.height, direction)?;
+        let column = column_beside(self.column(cell), self.width, direction)?;
+        let row = row_beside(self.row(cell), self.height, direction)?;
         Some(row * self.width + column)
     }
 
     // The differences of columns and of rows, or `None` where one of the two is no cell.
     pub fn differences(&self, a: u32, b: u32) -> Option<(u32, u32)>
-        ensures told { λ r. ⌜ r ≡ apart (now (self .entry) .width) (now (self .entry) .height) a b ⌝ }
+        ensures told { λ r. ⌜ r ≡ differences-of (now (self .entry) .width) (now (self .entry) .height) a b ⌝ }
         ensures small { λ r. ⌜ BySome r (Unit {0}) (λ p. (p .0 < 64) × (p .1 < 64)) ⌝ }
     {
         let size = self.size();
         if a >= size || b >= size {
             return None;
         }
-        let columns = (a % self.width).abs_diff(b % self.width);
-        let rows = (a / self.width).abs_diff(b / self.width);
+        let columns = apart(self.column(a), self.column(b));
+        let rows = apart(self.row(a), self.row(b));
         Some((columns, rows))
     }
+}
+
+// How far two columns or two rows are apart.
+fn apart(a: u32, b: u32) -> u32
+    requires { ⌜ (a < 64) × (b < 64) ⌝ }
+    ensures told { λ r. ⌜ r ≡ gap a b ⌝ }
+    ensures small { λ r. ⌜ r < 64 ⌝ }
+{
+    a.abs_diff(b)
 }
 
 // The column to which a direction leads.

@@ -1,19 +1,11 @@
-use Prim.Native.Nat.{_*_, _<_}
 use native.Mathlib.Omega.{arith}
-use borrow.Author.Needs.{needs}
-use Rattle.floor.proofs.Cells.{column-below, row-below}
+use Rattle.floor.proofs.Cells.{row-below}
 use Rattle.floor.proofs.extent.Extent.differences.Needs as need
 
-pub returns : need.returns
-returns c =
+pub apart-rows-requires : need.apart-rows-requires
+apart-rows-requires c κs =
     let w = c .args .self .now .width in
     let h = c .args .self .now .height in
-    let a = c .args .a in
-    let b = c .args .b in
-    let a-cell : a < w * h = omega arith in
-    let b-cell : b < w * h = omega arith in
-    let a-column = column-below a w (omega arith) in
-    let b-column = column-below b w (omega arith) in
-    let a-row = row-below a w h (omega arith) a-cell in
-    let b-row = row-below b w h (omega arith) b-cell in
-    record { told = search needs; small = (omega arith, omega arith) }
+    let a-row = row-below (c .args .a) w h (omega arith) (omega arith) in
+    let b-row = row-below (c .args .b) w h (omega arith) (omega arith) in
+    (omega arith, omega arith)
