@@ -2,3 +2,4 @@
 pub mod Faults
 pub mod Headings
 pub mod Fields
+pub mod Written

@@ -1,3 +1,4 @@
 // The texts of the planner: site texts and filed records.
 pub mod fault;
 pub mod heading;
+pub mod write;

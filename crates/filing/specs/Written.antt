@@ -1,0 +1,18 @@
+-- Lines as they are written, and what a write leaves of a buffer.
+use mathlib.Core.List.{List, [], _∷_, _++_}
+use Prim.Native.Nat.{ℕ, _+_}
+use lib.ListN.{length, take, drop}
+use Rattle.filing.specs.Fields.{field-text}
+
+-- a buffer with these bytes from a place on; every other byte is as it was
+abbrev pub overwritten : List ℕ → ℕ → List ℕ → List ℕ
+overwritten buffer at bytes = take at buffer ++ (bytes ++ drop (at + length bytes) buffer)
+
+-- numbers as fields, one after the other
+abbrev pub fields-text : List ℕ → List ℕ
+fields-text [] = []
+fields-text (n ∷ ns) = field-text n ++ fields-text ns
+
+-- a line: a word, fields, and byte 10
+abbrev pub line-text : List ℕ → List ℕ → List ℕ
+line-text word ns = word ++ (fields-text ns ++ 10 ∷ [])
