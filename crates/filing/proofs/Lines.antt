@@ -4,11 +4,14 @@ use mathlib.Core.List.{List, [], _∷_, _++_, append-assoc}
 use Prim.Native.Nat.{ℕ, _+_, _*_, _≤_, _<_}
 use native.Mathlib.Nat.{add-zero}
 use native.Mathlib.Omega.{arith}
+use lib.Chars.{codes}
 use lib.ListN.{length, take, drop, getD, length-append, length-drop}
 use lib.Seq.{paste}
 use Rattle.std.proofs.shelf.Lists.{append-nil, take-append-drop, length-take-le, take-more}
 use Rattle.std.proofs.shelf.Edits.{paste-all, paste-paste}
+use Rattle.filing.specs.declared.heading.Heading.{Heading}
 use Rattle.filing.specs.Fields.{field-text}
+use Rattle.filing.specs.Pen.{path-line, row-line, closing-line}
 use Rattle.filing.specs.Written.{overwritten, fields-text, line-text}
 
 -- ---- lengths
@@ -25,12 +28,23 @@ length-fields-text (n ∷ ns) =
     simp length-append (omega arith)
 
 pub length-line-text : (word ns : List ℕ) → length (line-text word ns) ≡ length word + 10 * length ns + 1
+unfolding line-text
 length-line-text word ns = let fields = length-fields-text ns in simp length-append (omega arith)
+
+pub length-path-line : (h : Heading) → length (path-line h) ≡ 65
+length-path-line h = length-line-text (codes "PATH") (h .width ∷ h .height ∷ h .start ∷ h .goal ∷ h .neighbours ∷ h .measure ∷ [])
+
+pub length-row-line : (number cell far : ℕ) → length (row-line number cell far) ≡ 31
+length-row-line number cell far = length-line-text [] (number ∷ cell ∷ far ∷ [])
+
+pub length-closing-line : (word : List ℕ) (moves far rock : ℕ) → length word ≡ 4 → length (closing-line word moves far rock) ≡ 35
+length-closing-line word moves far rock four = let whole = length-line-text word (moves ∷ far ∷ rock ∷ []) in omega arith
 
 -- ---- one write after another
 
 -- two writes in a row, the second right behind the first, are one
 pub overwritten-more : (buffer one two : List ℕ) (at end : ℕ) (front back : List ℕ) → one ≡ overwritten buffer at front → two ≡ overwritten one end back → end ≡ at + length front → at ≤ length buffer → two ≡ overwritten buffer at (front ++ back)
+unfolding overwritten
 overwritten-more buffer one two at end front back first second e within =
     second
     ∙ ap (λ (d : List ℕ). overwritten d end back) (first ∙ sym (paste-all buffer at front (length front) refl))
@@ -42,9 +56,11 @@ overwritten-more buffer one two at end front back first second e within =
 
 -- writing nothing changes nothing
 pub overwritten-none : (buffer : List ℕ) (at : ℕ) → buffer ≡ overwritten buffer at []
+unfolding overwritten
 overwritten-none buffer at = sym (ap (λ (n : ℕ). take at buffer ++ drop n buffer) (add-zero at) ∙ take-append-drop at buffer)
 
 pub length-overwritten : (buffer : List ℕ) (at : ℕ) (bytes : List ℕ) → at + length bytes ≤ length buffer → length (overwritten buffer at bytes) ≡ length buffer
+unfolding overwritten
 length-overwritten buffer at bytes within =
     let front : length (take at buffer) ≡ at = length-take-le at buffer (omega arith) in
     simp (length-append, length-drop) (omega arith)

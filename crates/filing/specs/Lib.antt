@@ -3,3 +3,4 @@ pub mod Faults
 pub mod Headings
 pub mod Fields
 pub mod Written
+pub mod Pen

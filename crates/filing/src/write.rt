@@ -5,7 +5,7 @@ ghost use Prim.Native.Nat.{_+_, _*_, _/_, _%_, _<_, _≤_};
 ghost use lib.Dec.{eqb, leb};
 ghost use lib.ListN.{length};
 ghost use Rattle.filing.specs.Fields.{field-text};
-ghost use Rattle.filing.specs.Written.{overwritten, line-text};
+ghost use Rattle.filing.specs.Written.{fits, overwritten, line-text};
 
 // A number as its ten columns.
 pub fn field(n: u32) -> [u8; 10]
@@ -35,6 +35,13 @@ fn column(n: u32, power: u32) -> u8
     } else {
         b' '
     }
+}
+
+// Whether so many bytes fit the buffer from `at` on.
+pub(crate) fn has_room(buffer: &[u8], at: usize, bytes: usize) -> bool
+    ensures { λ r. ⌜ r ≡ fits (now (buffer .entry)) at bytes ⌝ }
+{
+    at <= buffer.len() && bytes <= buffer.len() - at
 }
 
 // Writes a line from `at` on, and gives the place behind it.

@@ -4,9 +4,11 @@ use native.Mathlib.Omega.{arith}
 use lib.ListN.{length}
 use Rattle.std.proofs.shelf.Edits.{paste-all}
 use Rattle.std.proofs.shelf.Parts.{putMid-paste}
+use Rattle.filing.specs.Written.{overwritten}
 use Rattle.filing.proofs.write.put.Needs as need
 
 pub returns : need.returns
+unfolding overwritten
 returns c =
     let at = c .args .at in
     let new = c .args .bytes .now in

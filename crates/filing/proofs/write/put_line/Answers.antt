@@ -27,6 +27,7 @@ loop-n-again c =
     )
 
 pub returns : need.returns
+unfolding line-text
 returns c =
     let old = c .args .buffer .now in
     let at = c .args .at in

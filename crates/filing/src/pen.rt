@@ -1,0 +1,139 @@
+// The pen of records. It writes into a buffer that is lent with each call, and is itself only where it stands.
+//
+// A record that was begun is closed by `done` or `shut`, or given up by `abandon`. Each of them takes the pen,
+// so that no row can follow, and a pen that is let go in any other way is refused by the proof.
+ghost use mathlib.Core.Path.{_≡_};
+ghost use mathlib.Core.Bool.{cond};
+ghost use lib.Chars.{codes};
+ghost use Rattle.std.specs.Results.{isOk};
+ghost use Rattle.filing.specs.declared.fault.PenFault.the-variants as pen-fault;
+ghost use Rattle.filing.specs.Written.{overwritten};
+ghost use Rattle.filing.specs.Pen.{Let-go, begin-answer, begin-lines, row-answer, next-line, after-row, close-answer, last-line};
+use crate::fault::HeadingFault;
+use crate::fault::PenFault;
+use crate::heading::Heading;
+use crate::write::has_room;
+use crate::write::put_line;
+
+// The bytes of each kind of line, with its byte 10.
+const PATH_LINE: usize = 65;
+
+const ROW_LINE: usize = 31;
+
+const CLOSING_LINE: usize = 35;
+
+pub struct Pen {
+    // The bytes written so far.
+    at: usize,
+    // The last row's number and length.
+    row: u32,
+    length: u32,
+}
+
+impl Drop for Pen {
+    fn drop(self)
+        requires { ⌜ Let-go self ⌝ }
+    {
+        let Pen {
+            at: _,
+            row: _,
+            length: _,
+        } = self;
+    }
+}
+
+pub impl From<HeadingFault> for PenFault as PenFaultFromHeading {
+    ghost converts = { λ fault r. r ≡ pen-fault.Heading fault };
+
+    fn from(fault: HeadingFault) -> PenFault {
+        PenFault::Heading(fault)
+    }
+}
+
+// A record that could not be closed: its pen, which stands where it stood, and why.
+pub struct Unclosed {
+    pub pen: Pen,
+    pub fault: PenFault,
+}
+
+impl Pen {
+    // Writes the first line and row 0, the start.
+    pub fn begin(heading: &Heading, buffer: &mut [u8]) -> Result<Pen, PenFault>
+        ensures answer { λ r. ⌜ r ≡ begin-answer (now (heading .entry)) (now (buffer .entry)) ⌝ }
+        ensures bytes { λ r. ⌜ now (buffer .exit) ≡ cond (isOk r) (overwritten (now (buffer .entry)) 0 (begin-lines (now (heading .entry)))) (now (buffer .entry)) ⌝ }
+    {
+        heading.check()?;
+        if !has_room(buffer, 0, PATH_LINE + ROW_LINE + CLOSING_LINE) {
+            return Err(PenFault::Full);
+        }
+        let numbers = [
+            heading.width,
+            heading.height,
+            heading.start,
+            heading.goal,
+            heading.neighbours,
+            heading.measure,
+        ];
+        let at = put_line(buffer, 0, b"PATH", &numbers);
+        let at = put_line(buffer, at, b"", &[0, heading.start, 0]);
+        Ok(Pen {
+            at,
+            row: 0,
+            length: 0,
+        })
+    }
+
+    // Writes the next row.
+    pub fn row(&mut self, buffer: &mut [u8], cell: u32, length: u32) -> Result<(), PenFault>
+        ensures answer { λ r. ⌜ r ≡ row-answer (now (self .entry)) (now (buffer .entry)) ⌝ }
+        ensures pen { λ r. ⌜ now (self .exit) ≡ cond (isOk r) (after-row (now (self .entry)) length) (now (self .entry)) ⌝ }
+        ensures bytes { λ r. ⌜ now (buffer .exit) ≡ cond (isOk r) (overwritten (now (buffer .entry)) (now (self .entry) .at) (next-line (now (self .entry)) cell length)) (now (buffer .entry)) ⌝ }
+    {
+        if self.row == u32::MAX || !has_room(buffer, self.at, ROW_LINE + CLOSING_LINE) {
+            return Err(PenFault::Full);
+        }
+        self.row += 1;
+        self.length = length;
+        self.at = put_line(buffer, self.at, b"", &[self.row, cell, length]);
+        Ok(())
+    }
+
+    // Closes the record of a drive that arrived, and gives the bytes of the whole record.
+    pub fn done(self, buffer: &mut [u8], rock: u32) -> Result<usize, Unclosed>
+        ensures answer { λ r. ⌜ r ≡ close-answer self (now (buffer .entry)) ⌝ }
+        ensures bytes { λ r. ⌜ now (buffer .exit) ≡ cond (isOk r) (overwritten (now (buffer .entry)) (self .at) (last-line (codes "DONE") self rock)) (now (buffer .entry)) ⌝ }
+    {
+        self.close(buffer, b"DONE", rock)
+    }
+
+    // Closes the record of a drive that was shut in, and gives the bytes of the whole record.
+    pub fn shut(self, buffer: &mut [u8], rock: u32) -> Result<usize, Unclosed>
+        ensures answer { λ r. ⌜ r ≡ close-answer self (now (buffer .entry)) ⌝ }
+        ensures bytes { λ r. ⌜ now (buffer .exit) ≡ cond (isOk r) (overwritten (now (buffer .entry)) (self .at) (last-line (codes "SHUT") self rock)) (now (buffer .entry)) ⌝ }
+    {
+        self.close(buffer, b"SHUT", rock)
+    }
+
+    // Gives the record up, and writes nothing.
+    pub fn abandon(self) {
+        let Pen {
+            at: _,
+            row: _,
+            length: _,
+        } = self;
+    }
+
+    fn close(self, buffer: &mut [u8], word: &[u8; 4], rock: u32) -> Result<usize, Unclosed>
+        ensures answer { λ r. ⌜ r ≡ close-answer self (now (buffer .entry)) ⌝ }
+        ensures bytes { λ r. ⌜ now (buffer .exit) ≡ cond (isOk r) (overwritten (now (buffer .entry)) (self .at) (last-line (now (word .entry)) self rock)) (now (buffer .entry)) ⌝ }
+    {
+        if !has_room(buffer, self.at, CLOSING_LINE) {
+            return Err(Unclosed {
+                pen: self,
+                fault: PenFault::Full,
+            });
+        }
+        let Pen { at, row, length } = self;
+        Ok(put_line(buffer, at, word, &[row, length, rock]))
+    }
+}
