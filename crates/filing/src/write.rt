@@ -4,8 +4,12 @@ ghost use mathlib.Core.Bool.{cond, _||_};
 ghost use Prim.Native.Nat.{_+_, _*_, _/_, _%_, _<_, _≤_};
 ghost use lib.Dec.{eqb, leb};
 ghost use lib.ListN.{length};
+ghost use Rattle.std.specs.Options.{isSome};
 ghost use Rattle.filing.specs.Fields.{field-text};
-ghost use Rattle.filing.specs.Written.{fits, overwritten, line-text};
+ghost use Rattle.filing.specs.Written.{fits, overwritten, line-text, line-answer};
+
+// The columns of a field.
+const FIELD: usize = 10;
 
 // A number as its ten columns.
 pub fn field(n: u32) -> [u8; 10]
@@ -35,6 +39,18 @@ fn column(n: u32, power: u32) -> u8
     } else {
         b' '
     }
+}
+
+// Writes a line from `at` on, and gives the place behind it; writes nothing where the line does not fit.
+pub fn line(buffer: &mut [u8], at: usize, word: &[u8], fields: &[u32]) -> Option<usize>
+    ensures place { λ r. ⌜ r ≡ line-answer (now (buffer .entry)) at (line-text (now (word .entry)) (now (fields .entry))) ⌝ }
+    ensures bytes { λ r. ⌜ now (buffer .exit) ≡ cond (isSome r) (overwritten (now (buffer .entry)) at (line-text (now (word .entry)) (now (fields .entry)))) (now (buffer .entry)) ⌝ }
+{
+    let room = buffer.len().saturating_sub(at).saturating_sub(word.len());
+    if room == 0 || (room - 1) / FIELD < fields.len() {
+        return None;
+    }
+    Some(put_line(buffer, at, word, fields))
 }
 
 // Whether so many bytes fit the buffer from `at` on.
