@@ -1,2 +1,3 @@
 -- Lemmas on texts.
 pub mod Lines
+pub mod Records

@@ -10,6 +10,8 @@ use lib.Seq.{paste}
 use Rattle.std.proofs.shelf.Lists.{append-nil, take-append-drop, length-take-le, take-more}
 use Rattle.std.proofs.shelf.Edits.{paste-all, paste-paste}
 use Rattle.filing.specs.declared.heading.Heading.{Heading}
+use Rattle.filing.specs.declared.pen.Ending.{Ending}
+use Rattle.filing.specs.declared.pen.Ending.the-variants.{Done, Shut}
 use Rattle.filing.specs.Fields.{field-text}
 use Rattle.filing.specs.Pen.{path-line, row-line, closing-line}
 use Rattle.filing.specs.Written.{overwritten, fields-text, line-text}
@@ -37,8 +39,9 @@ length-path-line h = length-line-text (codes "PATH") (h .width ∷ h .height ∷
 pub length-row-line : (number cell far : ℕ) → length (row-line number cell far) ≡ 31
 length-row-line number cell far = length-line-text [] (number ∷ cell ∷ far ∷ [])
 
-pub length-closing-line : (word : List ℕ) (moves far rock : ℕ) → length word ≡ 4 → length (closing-line word moves far rock) ≡ 35
-length-closing-line word moves far rock four = let whole = length-line-text word (moves ∷ far ∷ rock ∷ []) in omega arith
+pub length-closing-line : (ending : Ending) (moves far rock : ℕ) → length (closing-line ending moves far rock) ≡ 35
+length-closing-line Done moves far rock = length-line-text (codes "DONE") (moves ∷ far ∷ rock ∷ [])
+length-closing-line Shut moves far rock = length-line-text (codes "SHUT") (moves ∷ far ∷ rock ∷ [])
 
 -- ---- one write after another
 

@@ -4,11 +4,12 @@
 // so that no row can follow, and a pen that is let go in any other way is refused by the proof.
 ghost use mathlib.Core.Path.{_≡_};
 ghost use mathlib.Core.Bool.{cond};
-ghost use lib.Chars.{codes};
+ghost use lib.ListN.{length as length-of};
 ghost use Rattle.std.specs.Results.{isOk};
 ghost use Rattle.filing.specs.declared.fault.PenFault.the-variants as pen-fault;
+ghost use Rattle.filing.specs.declared.pen.Ending.the-variants.{Done, Shut};
 ghost use Rattle.filing.specs.Written.{overwritten};
-ghost use Rattle.filing.specs.Pen.{Let-go, begin-answer, begin-lines, row-answer, next-line, after-row, close-answer, last-line};
+ghost use Rattle.filing.specs.Pen.{Let-go, begin-answer, begin-lines, row-answer, next-line, after-row, close-answer, last-line, rows-fit, file-answer, record-text};
 use crate::fault::HeadingFault;
 use crate::fault::PenFault;
 use crate::heading::Heading;
@@ -21,6 +22,20 @@ const PATH_LINE: usize = 65;
 const ROW_LINE: usize = 31;
 
 const CLOSING_LINE: usize = 35;
+
+// How a drive ended: at the goal, or shut in.
+#[derive(Clone, Copy, PartialEq, Eq, Debug)]
+pub enum Ending {
+    Done,
+    Shut,
+}
+
+// A row after row 0: the cell, and the length so far.
+#[derive(Clone, Copy, PartialEq, Eq, Debug)]
+pub struct Row {
+    pub cell: u32,
+    pub length: u32,
+}
 
 pub struct Pen {
     // The bytes written so far.
@@ -101,17 +116,17 @@ impl Pen {
     // Closes the record of a drive that arrived, and gives the bytes of the whole record.
     pub fn done(self, buffer: &mut [u8], rock: u32) -> Result<usize, Unclosed>
         ensures answer { λ r. ⌜ r ≡ close-answer self (now (buffer .entry)) ⌝ }
-        ensures bytes { λ r. ⌜ now (buffer .exit) ≡ cond (isOk r) (overwritten (now (buffer .entry)) (self .at) (last-line (codes "DONE") self rock)) (now (buffer .entry)) ⌝ }
+        ensures bytes { λ r. ⌜ now (buffer .exit) ≡ cond (isOk r) (overwritten (now (buffer .entry)) (self .at) (last-line Done self rock)) (now (buffer .entry)) ⌝ }
     {
-        self.close(buffer, b"DONE", rock)
+        self.close(buffer, Ending::Done, rock)
     }
 
     // Closes the record of a drive that was shut in, and gives the bytes of the whole record.
     pub fn shut(self, buffer: &mut [u8], rock: u32) -> Result<usize, Unclosed>
         ensures answer { λ r. ⌜ r ≡ close-answer self (now (buffer .entry)) ⌝ }
-        ensures bytes { λ r. ⌜ now (buffer .exit) ≡ cond (isOk r) (overwritten (now (buffer .entry)) (self .at) (last-line (codes "SHUT") self rock)) (now (buffer .entry)) ⌝ }
+        ensures bytes { λ r. ⌜ now (buffer .exit) ≡ cond (isOk r) (overwritten (now (buffer .entry)) (self .at) (last-line Shut self rock)) (now (buffer .entry)) ⌝ }
     {
-        self.close(buffer, b"SHUT", rock)
+        self.close(buffer, Ending::Shut, rock)
     }
 
     // Gives the record up, and writes nothing.
@@ -123,9 +138,9 @@ impl Pen {
         } = self;
     }
 
-    fn close(self, buffer: &mut [u8], word: &[u8; 4], rock: u32) -> Result<usize, Unclosed>
+    fn close(self, buffer: &mut [u8], ending: Ending, rock: u32) -> Result<usize, Unclosed>
         ensures answer { λ r. ⌜ r ≡ close-answer self (now (buffer .entry)) ⌝ }
-        ensures bytes { λ r. ⌜ now (buffer .exit) ≡ cond (isOk r) (overwritten (now (buffer .entry)) (self .at) (last-line (now (word .entry)) self rock)) (now (buffer .entry)) ⌝ }
+        ensures bytes { λ r. ⌜ now (buffer .exit) ≡ cond (isOk r) (overwritten (now (buffer .entry)) (self .at) (last-line ending self rock)) (now (buffer .entry)) ⌝ }
     {
         if !has_room(buffer, self.at, CLOSING_LINE) {
             return Err(Unclosed {
@@ -133,7 +148,50 @@ impl Pen {
                 fault: PenFault::Full,
             });
         }
+        let word = match ending {
+            Ending::Done => b"DONE",
+            Ending::Shut => b"SHUT",
+        };
         let Pen { at, row, length } = self;
         Ok(put_line(buffer, at, word, &[row, length, rock]))
     }
+}
+
+// Writes a whole record, with these rows after row 0, and gives its bytes.
+pub fn file(
+    heading: &Heading,
+    rows: &[Row],
+    ending: Ending,
+    rock: u32,
+    buffer: &mut [u8],
+) -> Result<usize, PenFault>
+    ensures answer { λ r. ⌜ r ≡ file-answer (now (heading .entry)) (now (rows .entry)) (now (buffer .entry)) ⌝ }
+    ensures bytes { λ r. ⌜ now (buffer .exit) ≡ cond (isOk r) (overwritten (now (buffer .entry)) 0 (record-text (now (heading .entry)) (now (rows .entry)) ending rock)) (now (buffer .entry)) ⌝ }
+{
+    heading.check()?;
+    if !rows_fit(buffer, rows) {
+        return Err(PenFault::Full);
+    }
+    let mut pen = Pen::begin(heading, buffer)?;
+    for row in rows {
+        if let Err(fault) = pen.row(buffer, row.cell, row.length) {
+            pen.abandon();
+            return Err(fault);
+        }
+    }
+    match pen.close(buffer, ending, rock) {
+        Ok(bytes) => Ok(bytes),
+        Err(Unclosed { pen, fault }) => {
+            pen.abandon();
+            Err(fault)
+        }
+    }
+}
+
+// Whether there are bytes for a record with these rows, and numbers for them.
+fn rows_fit(buffer: &[u8], rows: &[Row]) -> bool
+    ensures { λ r. ⌜ r ≡ rows-fit (length-of (now (rows .entry))) (length-of (now (buffer .entry))) ⌝ }
+{
+    let fixed = PATH_LINE + ROW_LINE + CLOSING_LINE;
+    rows.len() <= u32::MAX as usize && fixed + ROW_LINE * rows.len() <= buffer.len()
 }
