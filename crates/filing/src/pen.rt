@@ -195,3 +195,44 @@ fn rows_fit(buffer: &[u8], rows: &[Row]) -> bool
     let fixed = PATH_LINE + ROW_LINE + CLOSING_LINE;
     rows.len() <= u32::MAX as usize && fixed + ROW_LINE * rows.len() <= buffer.len()
 }
+
+#[cfg(test)]
+mod tests {
+    use super::*;
+    use crate::fault::PenFaultDebug;
+    use crate::fault::PenFaultPartialEq;
+    use std::test::*;
+
+    const HEADING: Heading = Heading {
+        width: 2,
+        height: 1,
+        start: 0,
+        goal: 1,
+        neighbours: 4,
+        measure: 1,
+    };
+
+    const RECORD: &[u8; 162] = b"PATH         2         1         0         1         4         1
+         0         0         0
+         1         1         5
+DONE         1         5         0
+";
+
+    #[test]
+    fn two_rows() -> Result<(), Fail> {
+        let mut buffer = [0; 162];
+        let rows = [Row { cell: 1, length: 5 }];
+        check_eq(file(&HEADING, &rows, Ending::Done, 0, &mut buffer), Ok(162))?;
+        check(buffer == *RECORD)
+    }
+
+    #[test]
+    fn too_short() -> Result<(), Fail> {
+        let mut buffer = [0; 161];
+        check(Pen::begin(&HEADING, &mut buffer[0..130]).is_err())?;
+        let mut pen = Pen::begin(&HEADING, &mut buffer)?;
+        let refused = pen.row(&mut buffer, 1, 5);
+        pen.abandon();
+        check_eq(refused, Err(PenFault::Full))
+    }
+}
