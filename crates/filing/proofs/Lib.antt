@@ -1,3 +1,3 @@
 -- Lemmas on texts.
-pub mod Lines
-pub mod Records
+pub mod Writing
+pub mod Filed

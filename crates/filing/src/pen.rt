@@ -4,12 +4,13 @@
 // so that no row can follow, and a pen that is let go in any other way is refused by the proof.
 ghost use mathlib.Core.Path.{_≡_};
 ghost use mathlib.Core.Bool.{cond};
+ghost use Prim.Native.Nat.{_+_, _≤_};
 ghost use lib.ListN.{length as length-of};
 ghost use Rattle.std.specs.Results.{isOk};
 ghost use Rattle.filing.specs.declared.fault.PenFault.the-variants as pen-fault;
 ghost use Rattle.filing.specs.declared.pen.Ending.the-variants.{Done, Shut};
 ghost use Rattle.filing.specs.Written.{overwritten};
-ghost use Rattle.filing.specs.Pen.{Let-go, begin-answer, begin-lines, row-answer, next-line, after-row, close-answer, last-line, rows-fit, file-answer, record-text};
+ghost use Rattle.filing.specs.Pen.{path-line, row-line, Let-go, begin-answer, begin-lines, row-answer, next-line, after-row, close-answer, last-line, rows-fit, file-answer, record-text};
 use crate::fault::HeadingFault;
 use crate::fault::PenFault;
 use crate::heading::Heading;
@@ -81,16 +82,7 @@ impl Pen {
         if !has_room(buffer, 0, PATH_LINE + ROW_LINE + CLOSING_LINE) {
             return Err(PenFault::Full);
         }
-        let numbers = [
-            heading.width,
-            heading.height,
-            heading.start,
-            heading.goal,
-            heading.neighbours,
-            heading.measure,
-        ];
-        let at = put_line(buffer, 0, b"PATH", &numbers);
-        let at = put_line(buffer, at, b"", &[0, heading.start, 0]);
+        let at = put_start(buffer, heading);
         Ok(Pen {
             at,
             row: 0,
@@ -109,7 +101,7 @@ impl Pen {
         }
         self.row += 1;
         self.length = length;
-        self.at = put_line(buffer, self.at, b"", &[self.row, cell, length]);
+        self.at = put_row(buffer, self.at, self.row, cell, length);
         Ok(())
     }
 
@@ -155,6 +147,42 @@ impl Pen {
         let Pen { at, row, length } = self;
         Ok(put_line(buffer, at, word, &[row, length, rock]))
     }
+}
+
+// Writes the first line and row 0, and gives the place behind them.
+fn put_start(buffer: &mut [u8], heading: &Heading) -> usize
+    requires { ⌜ 96 ≤ length-of (now buffer) ⌝ }
+    ensures place { λ r. ⌜ r ≡ 96 ⌝ }
+    ensures bytes { λ _. ⌜ now (buffer .exit) ≡ overwritten (now (buffer .entry)) 0 (begin-lines (now (heading .entry))) ⌝ }
+{
+    let end = put_path(buffer, heading);
+    put_row(buffer, end, 0, heading.start, 0)
+}
+
+// Writes the first line, and gives the place behind it.
+fn put_path(buffer: &mut [u8], heading: &Heading) -> usize
+    requires { ⌜ 65 ≤ length-of (now buffer) ⌝ }
+    ensures place { λ r. ⌜ r ≡ 65 ⌝ }
+    ensures bytes { λ _. ⌜ now (buffer .exit) ≡ overwritten (now (buffer .entry)) 0 (path-line (now (heading .entry))) ⌝ }
+{
+    let numbers = [
+        heading.width,
+        heading.height,
+        heading.start,
+        heading.goal,
+        heading.neighbours,
+        heading.measure,
+    ];
+    put_line(buffer, 0, b"PATH", &numbers)
+}
+
+// Writes a row from `at` on, and gives the place behind it.
+fn put_row(buffer: &mut [u8], at: usize, number: u32, cell: u32, length: u32) -> usize
+    requires { ⌜ at + 31 ≤ length-of (now buffer) ⌝ }
+    ensures place { λ r. ⌜ r ≡ at + 31 ⌝ }
+    ensures bytes { λ _. ⌜ now (buffer .exit) ≡ overwritten (now (buffer .entry)) at (row-line number cell length) ⌝ }
+{
+    put_line(buffer, at, b"", &[number, cell, length])
 }
 
 // Writes a whole record, with these rows after row 0, and gives its bytes.

@@ -17,7 +17,7 @@ use Rattle.filing.specs.declared.pen.Unclosed.{Unclosed}
 use Rattle.filing.specs.Headings.{heading-check}
 use Rattle.filing.specs.Pen.{checked, pen-behind, rows-fit, record-text}
 use Rattle.filing.specs.Written.{fits, overwritten}
-use Rattle.filing.proofs.Records.{room-for-rows, accepted, begun-pen, closed-bytes, penned-none, penned-more, penned-closed}
+use Rattle.filing.proofs.Filed.{room-for-rows, accepted, begun-pen, closed-bytes, penned-none, penned-more, penned-closed}
 use Rattle.filing.proofs.pen.file.Needs as need
 
 abbrev none : Row

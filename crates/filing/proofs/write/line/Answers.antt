@@ -7,7 +7,7 @@ use Rattle.std.proofs.shelf.Tests.{le-leb, lt-leb, cond-true, cond-false}
 use Rattle.std.specs.declared.option.Option.{Option}
 use Rattle.std.specs.declared.option.Option.the-variants.{Some, None}
 use Rattle.filing.specs.Written.{line-text}
-use Rattle.filing.proofs.Lines.{length-line-text}
+use Rattle.filing.proofs.Writing.{length-line-text}
 use Rattle.filing.proofs.write.line.Needs as need
 
 pub returns-then-room-eq0 : need.returns-then-room-eq0

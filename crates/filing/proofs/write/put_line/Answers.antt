@@ -5,7 +5,7 @@ use native.Mathlib.Omega.{arith}
 use lib.ListN.{length, take, getD, length-append}
 use Rattle.std.proofs.shelf.Lists.{length-take-le, take-all}
 use Rattle.filing.specs.Written.{overwritten, fields-text, line-text}
-use Rattle.filing.proofs.Lines.{overwritten-none, overwritten-more, length-field-text, length-fields-text, fields-text-more}
+use Rattle.filing.proofs.Writing.{overwritten-none, overwritten-more, length-field-text, length-fields-text, fields-text-more}
 use Rattle.filing.proofs.write.put_line.Needs as need
 
 pub loop-n-holds : need.loop-n-holds

@@ -19,7 +19,7 @@ use Rattle.filing.specs.declared.pen.Pen.{Pen}
 use Rattle.filing.specs.declared.pen.Row.{Row}
 use Rattle.filing.specs.Pen.{row-line, begin-lines, checked, next-line, after-row, last-line, closing-line, rows-text, last-length, record-text, pen-behind, Penned, rows-fit}
 use Rattle.filing.specs.Written.{overwritten}
-use Rattle.filing.proofs.Lines.{length-path-line, length-row-line, overwritten-none, overwritten-more, length-overwritten}
+use Rattle.filing.proofs.Writing.{length-path-line, length-row-line, overwritten-none, overwritten-more, length-overwritten}
 
 -- ---- rows one after the other
 
