@@ -1,0 +1,3 @@
+-- Lemmas on texts.
+pub mod Writing
+pub mod Filed
