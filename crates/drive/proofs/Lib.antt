@@ -4,3 +4,4 @@ pub mod Refusing
 pub mod Going
 pub mod Towards
 pub mod Marking
+pub mod Cutting

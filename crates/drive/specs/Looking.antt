@@ -42,3 +42,7 @@ module _ (l : Lattice) (here byte : ℕ) where
   -- a record after the pointers to such cells were cut
   abbrev pub cut-by : {M : Type 0} → ℕ → ℕ → Square M → Square M
   cut-by n a x = cond (test-at (l .beside a (x .pointer)) (struck n)) (with-pointer 0 x) x
+
+-- a record after the pointers to one cell were cut
+abbrev pub cut-to : {M : Type 0} → Lattice → ℕ → ℕ → Square M → Square M
+cut-to l b a x = cond (is (l .beside a (x .pointer)) b) (with-pointer 0 x) x

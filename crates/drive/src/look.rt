@@ -6,7 +6,7 @@ ghost use Prim.Native.Nat.{_+_, _<_};
 ghost use Rattle.model.specs.Lattice.{is};
 ghost use Rattle.model.specs.Plain.{is-rock};
 ghost use Rattle.drive.specs.Board.{mark-at, pointer-at};
-ghost use Rattle.drive.specs.Looking.{direction-bit, felt-mark, Remade, marked-by};
+ghost use Rattle.drive.specs.Looking.{direction-bit, felt-mark, Remade, marked-by, cut-by, cut-to};
 use crate::board::Square;
 use crate::board::Stage;
 use crate::board::mark;
@@ -87,23 +87,27 @@ impl<M: Copy> Rocks for Unmarked<'_, M> as UnmarkedRocks {
 }
 
 // Cuts the pointers to the neighbours whose bits are set.
-fn cut_around<L: Lattice, M: Copy>(lattice: &L, here: u32, rocks: u8, board: &mut [Square<M>]) {
+fn cut_around<L: Lattice, M: Copy>(lattice: &L, here: u32, rocks: u8, board: &mut [Square<M>])
+    ensures { λ _. ⌜ Remade (cut-by (L·Lattice .grid (now (lattice .entry))) here rocks 8) (now (board .entry)) (now (board .exit)) ⌝ }
+{
     for bit in 0..8u8 {
-        if has_bit(rocks, bit)
-            && let Some(rock) = lattice.beside(here, bit + 1)
-        {
-            cut_to(lattice, rock, board);
+        if has_bit(rocks, bit) {
+            if let Some(rock) = lattice.beside(here, bit + 1) {
+                cut_to(lattice, rock, board);
+            }
         }
     }
 }
 
 // Cuts the pointers to a cell, which are its neighbours'.
-fn cut_to<L: Lattice, M: Copy>(lattice: &L, rock: u32, board: &mut [Square<M>]) {
-    for direction in 1..=8u8 {
-        if let Some(cell) = lattice.beside(rock, direction)
-            && points_to(lattice, board, cell, rock)
-        {
-            set_pointer(board, cell, 0);
+fn cut_to<L: Lattice, M: Copy>(lattice: &L, rock: u32, board: &mut [Square<M>])
+    ensures { λ _. ⌜ Remade (cut-to (L·Lattice .grid (now (lattice .entry))) rock) (now (board .entry)) (now (board .exit)) ⌝ }
+{
+    for bit in 0..8u8 {
+        if let Some(cell) = lattice.beside(rock, bit + 1) {
+            if points_to(lattice, board, cell, rock) {
+                set_pointer(board, cell, 0);
+            }
         }
     }
 }
