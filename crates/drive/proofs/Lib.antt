@@ -5,3 +5,5 @@ pub mod Going
 pub mod Towards
 pub mod Marking
 pub mod Cutting
+pub mod Looking
+pub mod Lending

@@ -3,10 +3,16 @@ ghost use mathlib.Core.Bool.{not};
 ghost use mathlib.Core.Path.{_≡_};
 ghost use denote.Ref.{now};
 ghost use Prim.Native.Nat.{_+_, _<_};
+ghost use lib.ListN.{length};
+ghost use Rattle.std.specs.Vec.{made, refused};
+ghost use Rattle.std.specs.declared.option.Option.the-variants.{None, Some};
+ghost use Rattle.model.specs.Ground.{feels};
 ghost use Rattle.model.specs.Lattice.{is};
 ghost use Rattle.model.specs.Plain.{is-rock};
 ghost use Rattle.drive.specs.Board.{mark-at, pointer-at};
-ghost use Rattle.drive.specs.Looking.{direction-bit, felt-mark, Remade, marked-by, cut-by, cut-to};
+ghost use Rattle.drive.specs.declared.call.Call.the-variants.{Look};
+ghost use Rattle.drive.specs.Calls.{call-refusal};
+ghost use Rattle.drive.specs.Looking.{direction-bit, felt-mark, Remade, marked-by, cut-by, cut-to, next-search, made-searching, Begins, GoesOn, Looked};
 use crate::board::Square;
 use crate::board::Stage;
 use crate::board::mark;
@@ -37,7 +43,10 @@ impl<G: Guide> Drive<G> {
         carrier: &C,
         board: &mut [Square<M>],
         queue: &mut [Entry<M>],
-    ) -> Result<(u8, u32), Refusal> {
+    ) -> Result<(u8, u32), Refusal>
+        ensures refused { λ r. ⌜ refused r (λ e. (call-refusal (now (self .entry)) Look (record { records = length (now (board .entry)); entries = Some (length (now (queue .entry))); at = C·Carrier .ground (now (carrier .entry)) .at }) (G·Lattice .grid (now (self .entry) .guide) .size) ≡ Some e) × (now (self .exit) ≡ now (self .entry)) × (now (board .exit) ≡ now (board .entry)) × (now (queue .exit) ≡ now (queue .entry))) ⌝ }
+        ensures accepted { λ r. ⌜ made r (λ a. (call-refusal (now (self .entry)) Look (record { records = length (now (board .entry)); entries = Some (length (now (queue .entry))); at = C·Carrier .ground (now (carrier .entry)) .at }) (G·Lattice .grid (now (self .entry) .guide) .size) ≡ None) × (a .0 ≡ feels (Floor·Lattice .grid (C·Carrier .floor (now (carrier .entry)))) (C·Carrier .ground (now (carrier .entry)))) × Looked (M·Measure .scale) (M·Measure .value) (G·Lattice .grid (now (self .entry) .guide)) (a .0) (now (self .entry)) (now (self .exit)) (now (board .entry)) (now (board .exit)) (now (queue .entry)) (now (queue .exit)) (a .1)) ⌝ }
+    {
         let lent = Lent {
             records: board.len(),
             entries: Some(queue.len()),
@@ -45,21 +54,42 @@ impl<G: Guide> Drive<G> {
         };
         self.check(Call::Look, lent)?;
         let felt = carrier.feel();
+        let new = self.see(felt, board, queue);
+        Ok((felt, new))
+    }
+
+    // Takes in a felt byte: how many of its rock cells are new.
+    fn see<M: Measure>(&mut self, felt: u8, board: &mut [Square<M>], queue: &mut [Entry<M>]) -> u32
+        requires { ⌜ 0 < length (now queue) ⌝ }
+        ensures { λ r. ⌜ Looked (M·Measure .scale) (M·Measure .value) (G·Lattice .grid (now (self .entry) .guide)) felt (now (self .entry)) (now (self .exit)) (now (board .entry)) (now (board .exit)) (now (queue .entry)) (now (queue .exit)) r ⌝ }
+    {
         let fresh = felt & felt_at(&self.guide, &Unmarked { board }, self.cell);
         mark_around(&self.guide, self.cell, felt, board);
         cut_around(&self.guide, self.cell, fresh, board);
         let new = fresh.count_ones();
         self.found = self.found.saturating_add(new);
+        self.go_on(board, queue);
+        new
+    }
+
+    // With a pointer at the carrier's cell the drive is ready to go, and else a search begins.
+    fn go_on<M: Measure>(&mut self, board: &mut [Square<M>], queue: &mut [Entry<M>])
+        requires { ⌜ 0 < length (now queue) ⌝ }
+        ensures { λ _. ⌜ GoesOn (M·Measure .scale) (M·Measure .value) (now (self .entry)) (now (self .exit)) (now (board .entry)) (now (board .exit)) (now (queue .entry)) (now (queue .exit)) ⌝ }
+    {
         if pointer(board, self.cell) == 0 {
             self.begin_search(board, queue);
         } else {
             self.phase = Phase::Ready;
         }
-        Ok((felt, new))
     }
 
     // Begins a search: only the carrier's cell waits, at zero.
-    fn begin_search<M: Measure>(&mut self, board: &mut [Square<M>], queue: &mut [Entry<M>]) {
+    fn begin_search<M: Measure>(&mut self, board: &mut [Square<M>], queue: &mut [Entry<M>])
+        requires { ⌜ 0 < length (now queue) ⌝ }
+        ensures drive { λ _. ⌜ now (self .exit) ≡ made-searching (now (self .entry)) ⌝ }
+        ensures begins { λ _. ⌜ Begins (M·Measure .scale) (M·Measure .value) (now (self .entry) .cell) (next-search (now (self .entry) .searches)) (now (board .entry)) (now (board .exit)) (now (queue .entry)) (now (queue .exit)) ⌝ }
+    {
         self.phase = Phase::Searching;
         self.searches = self.searches.saturating_add(1);
         let value = M::zero();
