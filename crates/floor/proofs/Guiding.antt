@@ -63,6 +63,7 @@ module _ (far : ℕ → ℕ → ℕ) (uses : ℕ → Bool) (w h goal : ℕ) (siz
   is-far a l m = ap (λ t. cond t (Some (between far w a goal)) None) (ap₂ _&&_ (lt-ltb a (w * h) l) (lt-ltb goal (w * h) m))
 
   leads : (a : ℕ) → a < w * h → goal < w * h → Heads far uses w h a goal → lead (on-floor uses w h) (towards-goal far w h goal) a ≡ 0 → ⊥
+  unfolding lead
   leads a l m k none =
       let there = goes-there uses w h sized in-use a (k .d) (k .b) (k .in-use) (k .step) in
       let bounds = used-bounds (k .d) (in-use (k .d) (k .in-use)) in

@@ -1,6 +1,7 @@
 use mathlib.Core.Path.{_≡_}
 use mathlib.Core.Bool.{true, false}
 use native.Mathlib.Omega.{arith}
+use Rattle.model.specs.Lattice.{lead}
 use Rattle.floor.proofs.Leads.{next-none, first-here, none-of-all, nearer, nearer-at, nearer-none}
 use Rattle.floor.proofs.Guide.lead.Needs as need
 
@@ -23,6 +24,7 @@ loop-direction-again g c =
     next-none d (nearer l a (c .args .cell)) (omega arith) (c .loop-direction .inv) off
 
 pub returns-then-is-sum : need.returns-then-is-sum
+unfolding lead
 returns-then-is-sum g c =
     let l = g .Self·Lattice .grid (c .args .self .now) in
     let a = g .Self·Guide .aim (c .args .self .now) in
@@ -32,6 +34,7 @@ returns-then-is-sum g c =
     first-here d 8 (nearer l a (c .args .cell)) (omega arith) (omega arith) (c .loop-direction .inv) leads
 
 pub returns : need.returns
+unfolding lead
 returns g c =
     let l = g .Self·Lattice .grid (c .args .self .now) in
     let a = g .Self·Guide .aim (c .args .self .now) in
