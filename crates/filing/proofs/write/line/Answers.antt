@@ -1,3 +1,4 @@
+use mathlib.Core.Bool.{true, false}
 use mathlib.Core.Path.{_≡_, refl, sym, ap, _∙_}
 use Prim.Native.Nat.{ℕ, _+_, _*_}
 use native.Mathlib.Omega.{arith}
@@ -14,7 +15,9 @@ returns-then-not-line-fits c =
     let old = c .args .buffer .now in
     let end = c .args .at + length (written-line (c .args .word .now) (c .args .fields .now)) in
     let bytes = length-written-line (c .args .word .now) (c .args .fields .now) in
-    let full = leb-false (c .args .at + length (c .args .word .now) + 10 * length (c .args .fields .now) + 1) (length old) (sym (c .if-not-line-fits .ensures tt)) in
+    let needed = c .args .at + length (c .args .word .now) + 10 * length (c .args .fields .now) + 1 in
+    let test : leb needed (length old) ≡ false = sym {b = leb needed (length old)} (c .if-not-line-fits .ensures tt) in
+    let full = leb-false needed (length old) test in
     record {
       place = sym (cond-false (leb end (length old)) (Some end) None (lt-leb end (length old) (omega arith)));
       bytes = refl;
@@ -25,7 +28,9 @@ returns c =
     let old = c .args .buffer .now in
     let end = c .args .at + length (written-line (c .args .word .now) (c .args .fields .now)) in
     let bytes = length-written-line (c .args .word .now) (c .args .fields .now) in
-    let room = leb-true (c .args .at + length (c .args .word .now) + 10 * length (c .args .fields .now) + 1) (length old) (sym (c .if-not-line-fits .ensures tt)) in
+    let needed = c .args .at + length (c .args .word .now) + 10 * length (c .args .fields .now) + 1 in
+    let test : leb needed (length old) ≡ true = sym {b = leb needed (length old)} (c .if-not-line-fits .ensures tt) in
+    let room = leb-true needed (length old) test in
     let behind : c .put-line .result ≡ end = omega arith in
     record {
       place = ap (λ (n : ℕ). Some n) behind ∙ sym (cond-true (leb end (length old)) (Some end) None (le-leb end (length old) (omega arith)));
