@@ -2,10 +2,10 @@
 use mathlib.Core.Bool.{Bool, true, false, cond}
 use mathlib.Core.Path.{_≡_, refl, sym, ap, _∙_}
 use mathlib.Core.List.{List, [], _∷_, _++_, append-assoc}
-use Prim.Native.Nat.{ℕ, _+_, _*_, _≤_, _<_}
+use Prim.Native.Nat.{ℕ, _+_, _*_, _≤_}
 use native.Mathlib.Omega.{arith}
 use lib.Dec.{leb}
-use lib.ListN.{length, take, getD, length-append}
+use lib.ListN.{length, length-append}
 use Rattle.std.proofs.shelf.Lists.{append-nil, length-push}
 use Rattle.std.proofs.shelf.Tests.{leb-true, and-parts, cond-true}
 use Rattle.std.specs.declared.result.Result.{Result}
@@ -19,7 +19,7 @@ use Rattle.filing.specs.declared.pen.Pen.{Pen}
 use Rattle.filing.specs.declared.pen.Row.{Row}
 use Rattle.filing.specs.Pen.{row-line, begin-lines, checked, next-line, after-row, last-line, closing-line, rows-text, last-length, record-text, pen-behind, Penned, rows-fit}
 use Rattle.filing.specs.Written.{overwritten}
-use Rattle.filing.proofs.Writing.{length-path-line, length-row-line, overwritten-none, overwritten-more, length-overwritten}
+use Rattle.filing.proofs.Writing.{length-path-line, length-row-line, overwritten-none, overwritten-more}
 
 -- ---- rows one after the other
 
@@ -68,6 +68,12 @@ closed-bytes false x y u e = let z : _≡_ {A = ℕ} 0 1 = cc in absurd (omega a
 pub begun-pen : {X : Type 0} (check : Result (Unit {0}) HeadingFault) (room : Bool) (x y : X) → Ok x ≡ checked check (cond room (Ok y) (Err Full)) → x ≡ y
 begun-pen (Ok _) room x y e = closed-bytes room x y Full e
 begun-pen (Err f) room x y e = let z : _≡_ {A = ℕ} 0 1 = cc in absurd (omega arith)
+
+-- what it was accepted for
+pub begun-checks : {X : Type 0} (check : Result (Unit {0}) HeadingFault) (room : Bool) (x y : X) → Ok x ≡ checked check (cond room (Ok y) (Err Full)) → (check ≡ Ok tt) × (room ≡ true)
+begun-checks (Ok _) true x y e = (refl, refl)
+begun-checks (Ok _) false x y e = let z : _≡_ {A = ℕ} 0 1 = cc in absurd (omega arith)
+begun-checks (Err f) room x y e = let z : _≡_ {A = ℕ} 0 1 = cc in absurd (omega arith)
 
 pub penned-none : (pen : Pen) (begun : List ℕ) → pen ≡ pen-behind [] → Penned [] begun pen begun
 penned-none pen begun e = record { stands = e; bytes = overwritten-none begun 96 }

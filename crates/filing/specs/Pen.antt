@@ -18,16 +18,16 @@ use Rattle.filing.specs.declared.pen.Row.{Row}
 use Rattle.filing.specs.declared.pen.Pen.{Pen}
 use Rattle.filing.specs.declared.pen.Unclosed.{Unclosed}
 use Rattle.filing.specs.Headings.{heading-check}
-use Rattle.filing.specs.Written.{fits, overwritten, line-text}
+use Rattle.filing.specs.Written.{fits, overwritten, written-line}
 
 -- ---- the lines of a record
 
 abbrev pub path-line : Heading → List ℕ
-path-line h = line-text (codes "PATH") (h .width ∷ h .height ∷ h .start ∷ h .goal ∷ h .neighbours ∷ h .measure ∷ [])
+path-line h = written-line (codes "PATH") (h .width ∷ h .height ∷ h .start ∷ h .goal ∷ h .neighbours ∷ h .measure ∷ [])
 
 -- row number, cell, length so far
 abbrev pub row-line : ℕ → ℕ → ℕ → List ℕ
-row-line number cell far = line-text [] (number ∷ cell ∷ far ∷ [])
+row-line number cell far = written-line [] (number ∷ cell ∷ far ∷ [])
 
 abbrev pub ending-word : Ending → List ℕ
 ending-word Done = codes "DONE"
@@ -35,7 +35,7 @@ ending-word Shut = codes "SHUT"
 
 -- moves, length and rock found
 abbrev pub closing-line : Ending → ℕ → ℕ → ℕ → List ℕ
-closing-line ending moves far rock = line-text (ending-word ending) (moves ∷ far ∷ rock ∷ [])
+closing-line ending moves far rock = written-line (ending-word ending) (moves ∷ far ∷ rock ∷ [])
 
 -- ---- letting go
 

@@ -22,8 +22,8 @@ fields-text [] = []
 fields-text (n ∷ ns) = field-text n ++ fields-text ns
 
 -- a line: a word, fields, and byte 10
-unfoldable pub line-text : List ℕ → List ℕ → List ℕ
-line-text word ns = word ++ (fields-text ns ++ 10 ∷ [])
+unfoldable pub written-line : List ℕ → List ℕ → List ℕ
+written-line word ns = word ++ (fields-text ns ++ 10 ∷ [])
 
 -- the place behind a line that fits from a place on
 abbrev pub line-answer : List ℕ → ℕ → List ℕ → Option ℕ

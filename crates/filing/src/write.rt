@@ -6,7 +6,7 @@ ghost use lib.Dec.{eqb, leb};
 ghost use lib.ListN.{length};
 ghost use Rattle.std.specs.Options.{isSome};
 ghost use Rattle.filing.specs.Fields.{field-text};
-ghost use Rattle.filing.specs.Written.{fits, overwritten, line-text, line-answer};
+ghost use Rattle.filing.specs.Written.{fits, overwritten, written-line, line-answer};
 
 // The columns of a field.
 const FIELD: usize = 10;
@@ -43,14 +43,21 @@ fn column(n: u32, power: u32) -> u8
 
 // Writes a line from `at` on, and gives the place behind it; writes nothing where the line does not fit.
 pub fn line(buffer: &mut [u8], at: usize, word: &[u8], fields: &[u32]) -> Option<usize>
-    ensures place { λ r. ⌜ r ≡ line-answer (now (buffer .entry)) at (line-text (now (word .entry)) (now (fields .entry))) ⌝ }
-    ensures bytes { λ r. ⌜ now (buffer .exit) ≡ cond (isSome r) (overwritten (now (buffer .entry)) at (line-text (now (word .entry)) (now (fields .entry)))) (now (buffer .entry)) ⌝ }
+    ensures place { λ r. ⌜ r ≡ line-answer (now (buffer .entry)) at (written-line (now (word .entry)) (now (fields .entry))) ⌝ }
+    ensures bytes { λ r. ⌜ now (buffer .exit) ≡ cond (isSome r) (overwritten (now (buffer .entry)) at (written-line (now (word .entry)) (now (fields .entry)))) (now (buffer .entry)) ⌝ }
 {
-    let room = buffer.len().saturating_sub(at).saturating_sub(word.len());
-    if room == 0 || (room - 1) / FIELD < fields.len() {
+    if !line_fits(buffer, at, word, fields) {
         return None;
     }
     Some(put_line(buffer, at, word, fields))
+}
+
+// Whether a line fits the buffer from `at` on, however many fields there are.
+fn line_fits(buffer: &[u8], at: usize, word: &[u8], fields: &[u32]) -> bool
+    ensures { λ r. ⌜ r ≡ leb (at + length (now (word .entry)) + 10 * length (now (fields .entry)) + 1) (length (now (buffer .entry))) ⌝ }
+{
+    let room = buffer.len().saturating_sub(at).saturating_sub(word.len());
+    room > 0 && fields.len() <= (room - 1) / FIELD
 }
 
 // Whether so many bytes fit the buffer from `at` on.
@@ -64,7 +71,7 @@ pub(crate) fn has_room(buffer: &[u8], at: usize, bytes: usize) -> bool
 pub(crate) fn put_line(buffer: &mut [u8], at: usize, word: &[u8], fields: &[u32]) -> usize
     requires { ⌜ at + length (now word) + 10 * length (now fields) + 1 ≤ length (now buffer) ⌝ }
     ensures place { λ r. ⌜ r ≡ at + length (now (word .entry)) + 10 * length (now (fields .entry)) + 1 ⌝ }
-    ensures bytes { λ _. ⌜ now (buffer .exit) ≡ overwritten (now (buffer .entry)) at (line-text (now (word .entry)) (now (fields .entry))) ⌝ }
+    ensures bytes { λ _. ⌜ now (buffer .exit) ≡ overwritten (now (buffer .entry)) at (written-line (now (word .entry)) (now (fields .entry))) ⌝ }
 {
     let mut end = put(buffer, at, word);
     for n in fields {

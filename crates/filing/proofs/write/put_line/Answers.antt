@@ -4,7 +4,7 @@ use Prim.Native.Nat.{ℕ, _+_, _*_}
 use native.Mathlib.Omega.{arith}
 use lib.ListN.{length, take, getD, length-append}
 use Rattle.std.proofs.shelf.Lists.{length-take-le, take-all}
-use Rattle.filing.specs.Written.{overwritten, fields-text, line-text}
+use Rattle.filing.specs.Written.{overwritten, fields-text, written-line}
 use Rattle.filing.proofs.Writing.{overwritten-none, overwritten-more, length-field-text, length-fields-text, fields-text-more}
 use Rattle.filing.proofs.write.put_line.Needs as need
 
@@ -27,7 +27,7 @@ loop-n-again c =
     )
 
 pub returns : need.returns
-unfolding line-text
+unfolding written-line
 returns c =
     let old = c .args .buffer .now in
     let at = c .args .at in
@@ -45,5 +45,5 @@ returns c =
       place = omega arith;
       bytes =
           overwritten-more old (c .loop-n .buffer) (c .put .last .buffer) at (c .loop-n .end) (word ++ fields-text (take i ns)) (10 ∷ []) fields (c .put .ensures .bytes) (omega arith) (omega arith)
-          ∙ ap (overwritten old at) (append-assoc word (fields-text (take i ns)) (10 ∷ []) ∙ ap (line-text word) all);
+          ∙ ap (overwritten old at) (append-assoc word (fields-text (take i ns)) (10 ∷ []) ∙ ap (written-line word) all);
     }
