@@ -2,3 +2,5 @@
 pub mod Faults
 pub mod Headings
 pub mod Fields
+pub mod Lines
+pub mod Numerals

@@ -1,3 +1,5 @@
 // The texts of the planner: site texts and filed records.
 pub mod fault;
+pub mod field;
 pub mod heading;
+pub mod lines;
