@@ -4,3 +4,4 @@ pub mod Headings
 pub mod Fields
 pub mod Lines
 pub mod Numerals
+pub mod Words

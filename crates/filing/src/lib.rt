@@ -3,3 +3,4 @@ pub mod fault;
 pub mod field;
 pub mod heading;
 pub mod lines;
+pub mod word;
