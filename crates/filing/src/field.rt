@@ -2,7 +2,7 @@
 ghost use mathlib.Core.Path.{_≡_};
 ghost use Prim.Native.Nat.{_≤_};
 ghost use lib.ListN.{length, drop};
-ghost use Rattle.filing.specs.Numerals.{behind-blanks, digits-from, numeral as numeral-of, number-of};
+ghost use Rattle.filing.specs.Numerals.{behind-blanks, digits-from, numeral as numeral-of, number-of, Reads};
 
 // How many columns a field has.
 pub const COLUMNS: usize = 10;
@@ -10,6 +10,7 @@ pub const COLUMNS: usize = 10;
 // The number in a field, or `None` if the columns are no field.
 pub fn read(columns: &[u8]) -> Option<u32>
     ensures value { λ r. ⌜ r ≡ number-of (now (columns .entry)) ⌝ }
+    ensures law { λ r. ⌜ Reads (now (columns .entry)) r ⌝ }
 {
     if columns.len() != COLUMNS {
         return None;
@@ -49,10 +50,10 @@ fn value(digits: &[u8]) -> Option<u64>
 {
     let mut value = 0;
     for digit in digits {
-        match *digit {
-            b'0'..=b'9' => value = value * 10 + u64::from(*digit - b'0'),
-            _ => return None,
+        if !digit.is_ascii_digit() {
+            return None;
         }
+        value = value * 10 + u64::from(*digit - b'0');
     }
     Some(value)
 }
