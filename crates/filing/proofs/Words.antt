@@ -12,8 +12,8 @@ use Rattle.std.proofs.shelf.Equals.{matches-decides, sameBytes-decides}
 use Rattle.std.proofs.shelf.Tests.{lt-ltb, le-ltb}
 use Rattle.std.proofs.shelf.Ways.{same-from-decides, decides-like}
 use Rattle.filing.specs.declared.fault.TextFault.the-variants.{Length, Word}
-use Rattle.filing.specs.Lines.{TextLine}
-use Rattle.filing.specs.Words.{in-line, length-check, word-check}
+use Rattle.filing.specs.Lines.{TextLine, in-line}
+use Rattle.filing.specs.Words.{length-check, word-check}
 
 pub another : (w v : List ℕ) → (w ≡ v → ⊥) → sameBytes w v ≡ false
 another w v h = by (sameBytes w v) (sameBytes-decides w v)

@@ -4,10 +4,15 @@ use mathlib.Core.Bool.{Bool, cond, _&&_}
 use mathlib.Core.List.{List, [], _∷_}
 use Prim.Native.Nat.{ℕ, _+_, _-_, _*_, _^_, _<_}
 use lib.Dec.{eqb, leb, ltb}
-use lib.ListN.{length}
+use lib.ListN.{length, take, drop}
+use Rattle.std.specs.Options.{okOr}
 use Rattle.std.specs.declared.option.Option.{Option}
 use Rattle.std.specs.declared.option.Option.the-variants.{Some, None}
+use Rattle.std.specs.declared.result.Result.{Result}
+use Rattle.filing.specs.declared.fault.TextFault.{TextFault}
+use Rattle.filing.specs.declared.fault.TextFault.the-variants.{Field}
 use Rattle.filing.specs.Fields.{field-text}
+use Rattle.filing.specs.Lines.{TextLine, in-line}
 
 -- what stands behind the blanks
 abbrev pub behind-blanks : List ℕ → List ℕ
@@ -40,3 +45,10 @@ number-of f = cond (eqb (length f) 10) (up-to 4294967295 (numeral (behind-blanks
 -- a field that is read as n is what is written for n, and what is written for n is read as n
 abbrev pub Reads : List ℕ → Option ℕ → Type 0
 Reads f r = (n : ℕ) → (r ≡ Some n → (f ≡ field-text n) × (n < 2 ^ 32)) × (f ≡ field-text n → n < 2 ^ 32 → r ≡ Some n)
+
+-- the field of a line that begins in column c, and its number
+abbrev pub field-at : TextLine → ℕ → List ℕ
+field-at l c = take 10 (drop (c - 1) (l .bytes))
+
+abbrev pub field-number : TextLine → ℕ → Result ℕ TextFault
+field-number l c = okOr (number-of (field-at l c)) (Field (in-line l c))

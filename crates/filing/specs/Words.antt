@@ -8,10 +8,9 @@ use lib.ListN.{length, take}
 use Rattle.std.specs.shelf.Text.{sameBytes}
 use Rattle.std.specs.declared.result.Result.{Result}
 use Rattle.std.specs.declared.result.Result.the-variants.{Ok, Err}
-use Rattle.filing.specs.declared.fault.Place.{Place}
 use Rattle.filing.specs.declared.fault.TextFault.{TextFault}
 use Rattle.filing.specs.declared.fault.TextFault.the-variants.{Length, Word}
-use Rattle.filing.specs.Lines.{TextLine}
+use Rattle.filing.specs.Lines.{TextLine, in-line}
 
 -- the words of the formats, each as its own bytes; no other text has any
 abbrev pub is-word : List ℕ → Bool
@@ -21,10 +20,6 @@ is-word w =
 
 abbrev pub word-bytes : List ℕ → List ℕ
 word-bytes w = cond (is-word w) w []
-
--- a place in a line
-abbrev pub in-line : TextLine → ℕ → Place
-in-line l c = record { line = l .number; column = c }
 
 -- a line has to have this length and an end: else the fault is past its characters, or past the right length if that comes sooner
 abbrev pub length-check : TextLine → ℕ → Result (Unit {0}) TextFault

@@ -3,8 +3,7 @@ ghost use mathlib.Core.Path.{_≡_};
 ghost use Prim.Native.Nat.{_≤_};
 ghost use lib.ListN.{length};
 ghost use Rattle.filing.specs.Lines.{line-text};
-ghost use Rattle.filing.specs.Words.{word-bytes, in-line, length-check, word-check};
-use crate::fault::Place;
+ghost use Rattle.filing.specs.Words.{word-bytes, length-check, word-check};
 use crate::fault::TextFault;
 use crate::field::COLUMNS;
 use crate::lines::Line;
@@ -26,16 +25,6 @@ pub fn bytes_of(word: &str) -> &'static [u8]
 }
 
 impl Line<'_> {
-    // The place in this column.
-    pub fn place(&self, column: u32) -> Place
-        ensures { λ r. ⌜ r ≡ in-line (line-text (now (self .entry))) column ⌝ }
-    {
-        Place {
-            line: self.number,
-            column,
-        }
-    }
-
     // Refuses a line that has another length, or no end.
     pub fn check_length(&self, right: u16) -> Result<(), TextFault>
         ensures { λ r. ⌜ r ≡ length-check (line-text (now (self .entry))) right ⌝ }
