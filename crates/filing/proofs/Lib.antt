@@ -2,3 +2,4 @@ pub mod Cuts
 pub mod Numerals
 pub mod Words
 pub mod Written
+pub mod Steps

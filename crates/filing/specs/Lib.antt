@@ -5,3 +5,5 @@ pub mod Fields
 pub mod Lines
 pub mod Numerals
 pub mod Words
+pub mod Steps
+pub mod FirstLines
