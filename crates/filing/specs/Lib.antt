@@ -7,3 +7,4 @@ pub mod Numerals
 pub mod Words
 pub mod Steps
 pub mod FirstLines
+pub mod Site

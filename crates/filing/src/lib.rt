@@ -3,4 +3,5 @@ pub mod fault;
 pub mod field;
 pub mod heading;
 pub mod lines;
+pub mod site;
 pub mod word;
