@@ -3,3 +3,6 @@ pub mod Numerals
 pub mod Words
 pub mod Written
 pub mod Steps
+pub mod Sheets
+pub mod Rows
+pub mod Under

@@ -83,10 +83,9 @@ pub record SiteValue : Type 0 where
 abbrev pub site-value : Site → SiteValue
 site-value s = record { heading = s .heading; sheet = now (s .sheet) }
 
--- what is left of a text of the right length behind its first line: `PLAN`, the rows, `END` and nothing more
+-- the lines below the first: `PLAN`, the rows, `END` and nothing more
 unfoldable pub site-under : Heading → List ℕ → Result SiteValue SiteFault
-site-under h t =
-    let plan = after-line t in
+site-under h plan =
     let rows = after-line plan in
     let end = after-lines (h .height) rows in
     let sheet = take (h .height * (h .width + 1)) rows in
@@ -101,4 +100,4 @@ site-under h t =
 unfoldable pub site-of : List ℕ → Result SiteValue SiteFault
 site-of t =
     cond (ltb 4096 (length t)) (Err fault.TooLong)
-    (in-text (due-line 1 t) >>= λ first. site-heading first >>= λ h. site-under h t)
+    (in-text (due-line 1 t) >>= λ first. site-heading first >>= λ h. site-under h (after-line t))
