@@ -6,3 +6,4 @@ pub mod Steps
 pub mod Sheets
 pub mod Rows
 pub mod Under
+pub mod Accepting

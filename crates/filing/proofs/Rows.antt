@@ -5,7 +5,7 @@ use mathlib.Core.List.{List, [], _∷_}
 use Prim.Native.Nat.{ℕ, zero, suc, _+_, _-_, _*_, _<_, _≤_}
 use native.Mathlib.Nat.{suc-mul, zero-mul}
 use native.Mathlib.Omega.{arith}
-use lib.ListN.{length, drop}
+use lib.ListN.{length, take, drop}
 use Rattle.std.specs.declared.result.Result.the-variants.{Ok, Err}
 use Rattle.std.proofs.shelf.Lists.{length-drop}
 use Rattle.std.proofs.shelf.Tests.{ltb-true}
@@ -16,7 +16,7 @@ use Rattle.std.specs.declared.result.Result.{Result}
 use Rattle.filing.specs.Lines.{TextLine, line-of, line-ended, after-line, due-line}
 use Rattle.filing.specs.Site.{in-text, row-check, rows-check, after-lines}
 use Rattle.filing.specs.Words.{length-check}
-use Rattle.filing.proofs.Cuts.{after-is-back, ended-is-short}
+use Rattle.filing.proofs.Cuts.{line-is-front, after-is-back, ended-is-short}
 use Rattle.filing.proofs.Steps.{on, passed, lifted}
 use Rattle.filing.proofs.Words.{right-length}
 
@@ -47,7 +47,7 @@ lines-on rows i t u x l h f =
     ap (λ v. after-lines (rows - (i + 1)) v) f ∙ ap (λ k. after-lines k t) next ∙ h
 
 -- a row that is right is w bytes and the byte that ends it
-row-long : (w n : ℕ) (t : List ℕ) (line : TextLine) → Ok line ≡ due-line n t → Ok (tt {0}) ≡ row-check w line → (w + 1 ≤ length t) × (after-line t ≡ drop (w + 1) t)
+pub row-long : (w n : ℕ) (t : List ℕ) (line : TextLine) → Ok line ≡ due-line n t → Ok (tt {0}) ≡ row-check w line → (w + 1 ≤ length t) × (after-line t ≡ drop (w + 1) t) × (line .bytes ≡ take w t)
 unfolding row-check
 row-long w n [] line d r = absurd (clash d)
   where
@@ -60,7 +60,7 @@ row-long w n (b ∷ bs) line d r =
     let same : length (line-of t) ≡ w = ap (λ (x : List ℕ). length x) (sym (ap bytes-of d)) ∙ right .0 in
     let ended : line-ended t ≡ true = sym (ap ended-of d) ∙ right .1 in
     let below : length (line-of t) < length t = ltb-true (length (line-of t)) (length t) (sym (ended-is-short t) ∙ ended) in
-    (omega arith, after-is-back t ∙ ap (λ k. drop (k + 1) t) same)
+    (omega arith, after-is-back t ∙ ap (λ k. drop (k + 1) t) same, ap bytes-of d ∙ line-is-front t ∙ ap (λ k. take k t) same)
   where
     bytes-of : Result TextLine TextFault → List ℕ
     bytes-of (Ok x) = x .bytes

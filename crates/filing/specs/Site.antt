@@ -1,7 +1,8 @@
 -- A site text, line by line: the first line, `PLAN`, the rows of the sheet, `END`.
-use mathlib.Core.Bool.{Bool, cond, _||_}
+use mathlib.Core.Path.{_≡_}
+use mathlib.Core.Bool.{Bool, true, cond, _||_}
 use mathlib.Core.List.{List, [], _∷_, _++_}
-use Prim.Native.Nat.{ℕ, zero, suc, _+_, _*_}
+use Prim.Native.Nat.{ℕ, zero, suc, _+_, _*_, _<_, _≤_}
 use denote.Ref.{now}
 use lib.Chars.{codes}
 use lib.Dec.{eqb, leb, ltb}
@@ -101,3 +102,14 @@ unfoldable pub site-of : List ℕ → Result SiteValue SiteFault
 site-of t =
     cond (ltb 4096 (length t)) (Err fault.TooLong)
     (in-text (due-line 1 t) >>= λ first. site-heading first >>= λ h. site-under h (after-line t))
+
+-- what holds of a site that is accepted: a floor of at most 512 cells, each passable or rock, its start passable and its goal a cell
+pub record Accepted (h : Heading) (sheet : List ℕ) : Type 0 where
+  pub known : heading-check h ≡ Ok (tt {0})
+  pub small : h .width * h .height ≤ 512
+  pub rows : length sheet ≡ h .height * (h .width + 1)
+  pub cells : length (cells-of (h .width) (h .height) sheet) ≡ h .width * h .height
+  pub marks : (c : ℕ) → c < h .width * h .height → is-mark (getD (cells-of (h .width) (h .height) sheet) c 0) ≡ true
+  pub start : h .start < h .width * h .height
+  pub passable : getD (cells-of (h .width) (h .height) sheet) (h .start) 0 ≡ 46
+  pub goal : h .goal < h .width * h .height

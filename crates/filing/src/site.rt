@@ -3,9 +3,10 @@ ghost use mathlib.Core.Path.{_≡_};
 ghost use Prim.Native.Nat.{_+_, _*_, _<_, _≤_};
 ghost use lib.ListN.{length};
 ghost use Rattle.std.specs.Results.{mapped};
+ghost use Rattle.std.specs.Of.Vec.{vec-items};
 ghost use Rattle.std.specs.Vec.{made};
 ghost use Rattle.filing.specs.Lines.{line-text, after-line, next-number};
-ghost use Rattle.filing.specs.Site.{site-heading, row-check, marks-check, word-alone, rows-check, after-lines, ends-check, site-value, site-under, site-of};
+ghost use Rattle.filing.specs.Site.{site-heading, row-check, marks-check, word-alone, rows-check, after-lines, cells-of, ends-check, site-value, site-under, site-of, Accepted};
 ghost use Rattle.filing.specs.Words.{word-bytes};
 use crate::fault::SiteFault;
 use crate::fault::SiteFaultFromHeading;
@@ -17,12 +18,31 @@ use crate::heading::WIDTH;
 use crate::heading::in_column;
 use crate::lines::Line;
 use crate::lines::Lines;
+use std::alloc::AllocError;
+use std::alloc::Global;
 
 // A site as its text has it: the rows of the sheet are a part of the text, with their line ends.
 #[derive(Clone, Copy)]
 pub struct Site<'a> {
     pub heading: Heading,
     pub sheet: &'a [u8],
+}
+
+impl Site<'_> {
+    // The sheet bytes by cell number: the rows without their line ends.
+    pub fn cells(&self, heap: Global) -> Result<Vec<u8>, AllocError>
+        ensures { λ r. ⌜ made r (λ v. vec-items v ≡ cells-of (now (self .entry) .heading .width) (now (self .entry) .heading .height) (now (now (self .entry) .sheet))) ⌝ }
+    {
+        let width = self.heading.width as usize;
+        let mut cells = Vec::new(heap);
+        let mut rest = self.sheet;
+        for _row in 0..self.heading.height {
+            let length = rest.len();
+            cells.extend_from_slice(&rest[0..length.min(width)])?;
+            rest = &rest[length.min(width + 1)..];
+        }
+        Ok(cells)
+    }
 }
 
 // The most bytes of a site text.
@@ -36,7 +56,8 @@ const MOST_CELLS: u32 = 512;
 
 // Reads a site text.
 pub fn read_site(text: &[u8]) -> Result<Site<'_>, SiteFault>
-    ensures { λ r. ⌜ mapped site-value (λ e. e) r ≡ site-of (now (text .entry)) ⌝ }
+    ensures value { λ r. ⌜ mapped site-value (λ e. e) r ≡ site-of (now (text .entry)) ⌝ }
+    ensures accepted { λ r. ⌜ made r (λ s. Accepted (s .heading) (now (s .sheet))) ⌝ }
 {
     if text.len() > MOST_BYTES {
         return Err(SiteFault::TooLong);
