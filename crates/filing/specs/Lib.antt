@@ -4,3 +4,9 @@ pub mod Headings
 pub mod Fields
 pub mod Written
 pub mod Pen
+pub mod Lines
+pub mod Numerals
+pub mod Words
+pub mod Steps
+pub mod FirstLines
+pub mod Site

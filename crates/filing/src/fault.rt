@@ -1,5 +1,6 @@
 // What can be wrong with a text or a record. A fault of one layer holds the fault of the layer below it.
 ghost use mathlib.Core.Path.{_≡_};
+ghost use Rattle.filing.specs.declared.fault.SiteFault.the-variants.{Text as site-text, Heading as site-heading};
 ghost use Rattle.filing.specs.Faults.{text-report, heading-report, site-report, pen-report};
 
 // A place in a text: the line, and the column in it, each counted from 1.
@@ -128,6 +129,22 @@ impl SiteFault {
             SiteFault::StartOnRock(place) => Report::at(7, place),
             SiteFault::GoalOffFloor(place) => Report::at(8, place),
         }
+    }
+}
+
+pub impl From<TextFault> for SiteFault as SiteFaultFromText {
+    ghost converts = { λ fault r. r ≡ site-text fault };
+
+    fn from(fault: TextFault) -> SiteFault {
+        SiteFault::Text(fault)
+    }
+}
+
+pub impl From<HeadingFault> for SiteFault as SiteFaultFromHeading {
+    ghost converts = { λ fault r. r ≡ site-heading fault };
+
+    fn from(fault: HeadingFault) -> SiteFault {
+        SiteFault::Heading(fault)
     }
 }
 

@@ -1,8 +1,13 @@
 // The six numbers on the first line of a site text and of a record.
 ghost use mathlib.Core.Path.{_≡_};
+ghost use Rattle.filing.specs.FirstLines.{heading-of};
 ghost use Rattle.filing.specs.Headings.{heading-check};
+ghost use Rattle.filing.specs.Lines.{line-text};
+ghost use Rattle.filing.specs.Words.{word-bytes};
 use crate::fault::HeadingFault;
 use crate::fault::Place;
+use crate::fault::TextFault;
+use crate::lines::Line;
 
 // The numbers as they stand on the line: neighbours is 4 or 8, and measure 1 or 2, in one that is accepted.
 #[derive(Clone, Copy, PartialEq, Eq, Debug)]
@@ -31,7 +36,25 @@ pub const NEIGHBOURS: u32 = 45;
 
 pub const MEASURE: u32 = 55;
 
+// How many fields a first line has.
+const FIELDS: u8 = 6;
+
 impl Heading {
+    // The numbers on a first line that begins with this word.
+    pub fn read(line: &Line<'_>, word: &str) -> Result<Heading, TextFault>
+        ensures { λ r. ⌜ r ≡ heading-of (line-text (now (line .entry))) (word-bytes (now (word .entry))) ⌝ }
+    {
+        line.check_word(word, FIELDS)?;
+        Ok(Heading {
+            width: line.number(WIDTH)?,
+            height: line.number(HEIGHT)?,
+            start: line.number(START)?,
+            goal: line.number(GOAL)?,
+            neighbours: line.number(NEIGHBOURS)?,
+            measure: line.number(MEASURE)?,
+        })
+    }
+
     // Refuses an unknown number of neighbours or measure, then a width or height that is not 1 to 64.
     pub fn check(&self) -> Result<(), HeadingFault>
         ensures { λ r. ⌜ r ≡ heading-check (now (self .entry)) ⌝ }
