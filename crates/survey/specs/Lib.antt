@@ -1,0 +1,3 @@
+-- What the contracts of the survey cite.
+pub mod Faults
+pub mod Surveying
