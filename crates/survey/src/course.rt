@@ -1,10 +1,14 @@
 // Driving a site and filing the course.
 ghost use mathlib.Core.Path.{_≡_};
-ghost use Prim.Native.Nat.{_≤_};
+ghost use mathlib.Core.List.{[]};
+ghost use Prim.Native.Nat.{_+_, _≤_};
 ghost use lib.ListN.{length};
 ghost use Rattle.std.specs.Vec.{made};
+ghost use Rattle.filing.specs.declared.pen.Ending.the-variants.{Done};
+ghost use Rattle.filing.specs.Pen.{last-line, pen-behind};
 ghost use Rattle.filing.specs.Site.{site-of};
-ghost use Rattle.survey.specs.Surveying.{SiteFirst};
+ghost use Rattle.filing.specs.Written.{overwritten};
+ghost use Rattle.survey.specs.Surveying.{SiteFirst, Filed, Course};
 use crate::fault::Fault;
 use crate::fault::FaultFromAlloc;
 use carrier::Carrier;
@@ -86,7 +90,7 @@ fn by_measure<L: Metric + Copy>(
     site: &Site,
     buffer: &mut [u8],
 ) -> Result<usize, Fault>
-    ensures { λ r. ⌜ made r (λ bytes. bytes ≤ length (now (buffer .entry))) ⌝ }
+    ensures { λ r. ⌜ made r (λ bytes. Filed (now (site .entry) .heading) (now (buffer .entry)) (now (buffer .exit)) bytes) ⌝ }
 {
     if site.heading.measure == 1 {
         file::<L, Length>(heap, lattice, site, buffer)
@@ -102,7 +106,7 @@ fn file<L: Metric + Copy, M: Measure + Clone>(
     site: &Site,
     buffer: &mut [u8],
 ) -> Result<usize, Fault>
-    ensures { λ r. ⌜ made r (λ bytes. bytes ≤ length (now (buffer .entry))) ⌝ }
+    ensures { λ r. ⌜ made r (λ bytes. Filed (now (site .entry) .heading) (now (buffer .entry)) (now (buffer .exit)) bytes) ⌝ }
 {
     let sheet = site.cells(heap)?;
     // What the reader of the site accepted fits a carrier, so only memory can be wanting.
@@ -151,7 +155,10 @@ fn follow<G: Guide, C: Carrier, M: Measure>(
     queue: &mut [Entry<M>],
     pen: &mut Pen,
     buffer: &mut [u8],
-) -> Result<(), Fault> {
+) -> Result<(), Fault>
+    requires { ⌜ (now pen ≡ pen-behind []) × (96 ≤ length (now buffer)) ⌝ }
+    ensures { λ r. ⌜ made r (λ _. Course (now (buffer .entry)) (now (pen .exit)) (now (buffer .exit))) ⌝ }
+{
     for _ in 0..board.len() {
         if drive.tell().phase == Phase::Arrived {
             return Ok(());
@@ -182,7 +189,7 @@ fn advance<G: Guide, C: Carrier, M: Measure>(
 
 // Closes the record of a drive that arrived.
 fn close(pen: Pen, buffer: &mut [u8], rock: u32) -> Result<usize, Fault>
-    ensures { λ r. ⌜ made r (λ bytes. bytes ≤ length (now (buffer .entry))) ⌝ }
+    ensures { λ r. ⌜ made r (λ bytes. (bytes ≡ pen .at + 35) × (bytes ≤ length (now (buffer .entry))) × (now (buffer .exit) ≡ overwritten (now (buffer .entry)) (pen .at) (last-line Done pen rock))) ⌝ }
 {
     match pen.done(buffer, rock) {
         Ok(bytes) => Ok(bytes),

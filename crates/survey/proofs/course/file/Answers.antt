@@ -1,12 +1,24 @@
-use mathlib.Core.Path.{_≡_, subst}
-use Prim.Native.Nat.{ℕ, _≤_}
+use mathlib.Core.Path.{_≡_, refl, sym, _∙_}
+use Prim.Native.Nat.{_≤_, _+_}
 use native.Mathlib.Omega.{arith}
+use borrow.Author.Tests.{leb-true}
 use lib.ListN.{length}
-use Rattle.std.specs.Vec.{made}
+use Rattle.filing.specs.declared.pen.Pen.{Pen}
+use Rattle.filing.specs.Headings.{heading-check}
+use Rattle.filing.specs.Written.{fits}
+use Rattle.filing.proofs.Filed.{begun-pen, begun-checks}
+use Rattle.survey.proofs.Surveying.{closed-course}
 use Rattle.survey.proofs.course.file.Needs as need
+
+pub follow-requires : need.follow-requires
+follow-requires g c κs =
+    let h = c .args .site .now .heading in
+    let buffer = c .args .buffer .now in
+    let first : Pen = record { at = 96; row = 0; length = 0 } in
+    let room = begun-checks (heading-check h) (fits buffer 0 131) (c .in-Ok-begin .pen) first (c .in-Ok-begin .ensures tt .answer) .1 in
+    (begun-pen (heading-check h) (fits buffer 0 131) (c .in-Ok-begin .pen) first (c .in-Ok-begin .ensures tt .answer), omega (arith, leb-true (0 + 131) (length buffer) room))
 
 pub returns-in-Ok-follow : need.returns-in-Ok-follow
 returns-in-Ok-follow g c =
-    let e : length (c .follow .last .buffer) ≡ length (c .args .buffer .now) = omega arith in
-    let P : ℕ → Type 0 = λ n. made (c .close .result) (λ bytes. bytes ≤ n) in
-    subst P e (c .close .ensures)
+    closed-course (c .args .site .now .heading) (c .args .buffer .now) (c .begin .last .buffer) (c .follow .last .buffer) (c .close .last .buffer) (c .follow .last .pen) (c .tell .result .found) (c .close .result)
+    (c .in-Ok-begin .ensures tt .bytes) (omega arith) (c .in-Ok-follow .ensures tt) (c .close .ensures)

@@ -1,0 +1,21 @@
+use mathlib.Core.Path.{refl}
+use mathlib.Core.List.{[], _∷_, _++_}
+use native.Mathlib.Omega.{arith}
+use Rattle.filing.specs.declared.pen.Row.{Row}
+use Rattle.filing.proofs.Filed.{penned-none, penned-more}
+use Rattle.survey.proofs.course.follow.Needs as need
+
+pub loop-holds : need.loop-holds
+loop-holds g c = (refl, record { rows = []; penned = penned-none (c .args .pen .now) (c .args .buffer .now) (c .pre .0) })
+
+pub loop-again : need.loop-again
+loop-again g c =
+    let rows = c .loop .inv .1 .rows in
+    let row : Row = record { cell = c .in-Continue-cell .cell; length = c .tell-in-loop .result .length } in
+    (
+      omega arith,
+      record {
+        rows = rows ++ row ∷ [];
+        penned = penned-more rows (c .args .buffer .now) (c .loop .pen) (c .loop .buffer) row (rows ++ row ∷ []) (c .row .last .self) (c .row .last .buffer) (c .loop .inv .1 .penned) (c .pre .1) refl (c .in-rest .ensures tt .pen) (c .in-rest .ensures tt .bytes);
+      },
+    )
