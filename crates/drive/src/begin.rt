@@ -6,7 +6,7 @@ ghost use Rattle.std.specs.declared.option.Option.the-variants.{None, Some};
 ghost use Rattle.model.specs.Plain.{vet-number};
 ghost use Rattle.model.specs.Promise.{Keeps};
 ghost use Rattle.drive.specs.Worlds.{over};
-ghost use Rattle.drive.specs.Beginning.{vetted-number, allowed, vet-refusal, begun, Laid};
+ghost use Rattle.drive.specs.Beginning.{vetted-number, allowed, vet-refusal, begun, fresh-square, Laid};
 use crate::board::Square;
 use crate::board::put;
 use crate::drive::Drive;
@@ -66,11 +66,18 @@ fn lay_out<G: Guide, M: Measure>(guide: &G, start: u32, board: &mut [Square<M>])
     ensures { λ _. ⌜ Laid (G·Lattice .grid (now (guide .entry))) (G·Guide .aim (now (guide .entry))) start (G·Lattice .grid (now (guide .entry)) .size) (now (board .entry)) (now (board .exit)) ⌝ }
 {
     for cell in 0..guide.size() {
-        let mark = if cell == start {
-            Mark::Passable
-        } else {
-            Mark::Unseen
-        };
-        put(board, cell, Square::new(mark, guide.lead(cell)));
+        put(board, cell, first_square(guide, start, cell));
     }
+}
+
+// The record of a cell where a drive begins.
+fn first_square<G: Guide, M: Measure>(guide: &G, start: u32, cell: u32) -> Square<M>
+    ensures { λ r. ⌜ r ≡ fresh-square (G·Lattice .grid (now (guide .entry))) (G·Guide .aim (now (guide .entry))) start cell ⌝ }
+{
+    let mark = if cell == start {
+        Mark::Passable
+    } else {
+        Mark::Unseen
+    };
+    Square::new(mark, guide.lead(cell))
 }

@@ -24,7 +24,7 @@ pub struct Square<M> {
     stage: Stage<M>,
 }
 
-impl<M> Square<M> {
+impl<M: Copy> Square<M> {
     // A cell that no search has reached.
     pub fn new(mark: Mark, pointer: u8) -> Square<M>
         ensures { λ r. ⌜ r ≡ record { mark = mark; pointer = pointer; paint = 0; search = 0; stage = Stage.Idle } ⌝ }
@@ -35,6 +35,31 @@ impl<M> Square<M> {
             paint: 0,
             search: 0,
             stage: Stage::Idle,
+        }
+    }
+
+    // The same with another mark.
+    fn marked(self, mark: Mark) -> Square<M>
+        ensures { λ r. ⌜ r ≡ with-mark mark self ⌝ }
+    {
+        Square { mark, ..self }
+    }
+
+    // The same with another pointer.
+    fn pointed(self, pointer: u8) -> Square<M>
+        ensures { λ r. ⌜ r ≡ with-pointer pointer self ⌝ }
+    {
+        Square { pointer, ..self }
+    }
+
+    // The same with a stage in the search of a number.
+    fn staged(self, search: u16, stage: Stage<M>) -> Square<M>
+        ensures { λ r. ⌜ r ≡ with-stage search stage self ⌝ }
+    {
+        Square {
+            search,
+            stage,
+            ..self
         }
     }
 }
@@ -86,7 +111,7 @@ pub fn set_mark<M: Copy>(board: &mut [Square<M>], cell: u32, mark: Mark)
     ensures { λ _. ⌜ now (board .exit) ≡ changed (with-mark mark) (now (board .entry)) cell ⌝ }
 {
     if let Some(square) = record_of(board, cell) {
-        put(board, cell, Square { mark, ..square });
+        put(board, cell, square.marked(mark));
     }
 }
 
@@ -95,7 +120,7 @@ pub fn set_pointer<M: Copy>(board: &mut [Square<M>], cell: u32, pointer: u8)
     ensures { λ _. ⌜ now (board .exit) ≡ changed (with-pointer pointer) (now (board .entry)) cell ⌝ }
 {
     if let Some(square) = record_of(board, cell) {
-        put(board, cell, Square { pointer, ..square });
+        put(board, cell, square.pointed(pointer));
     }
 }
 
@@ -104,14 +129,6 @@ pub fn set_stage<M: Copy>(board: &mut [Square<M>], cell: u32, search: u16, stage
     ensures { λ _. ⌜ now (board .exit) ≡ changed (with-stage search stage) (now (board .entry)) cell ⌝ }
 {
     if let Some(square) = record_of(board, cell) {
-        put(
-            board,
-            cell,
-            Square {
-                search,
-                stage,
-                ..square
-            },
-        );
+        put(board, cell, square.staged(search, stage));
     }
 }

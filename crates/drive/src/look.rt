@@ -12,7 +12,7 @@ ghost use Rattle.model.specs.Plain.{is-rock};
 ghost use Rattle.drive.specs.Board.{mark-at, pointer-at};
 ghost use Rattle.drive.specs.declared.call.Call.the-variants.{Look};
 ghost use Rattle.drive.specs.Calls.{call-refusal};
-ghost use Rattle.drive.specs.Looking.{direction-bit, felt-mark, Remade, marked-by, cut-by, cut-to, next-search, made-searching, Begins, GoesOn, Looked};
+ghost use Rattle.drive.specs.Looking.{direction-bit, felt-mark, Remade, marked-by, cut-by, cut-to, new-bits, next-search, made-searching, Begins, GoesOn, Looked};
 use crate::board::Square;
 use crate::board::Stage;
 use crate::board::mark;
@@ -63,7 +63,7 @@ impl<G: Guide> Drive<G> {
         requires { ⌜ 0 < length (now queue) ⌝ }
         ensures { λ r. ⌜ Looked (M·Measure .scale) (M·Measure .value) (G·Lattice .grid (now (self .entry) .guide)) felt (now (self .entry)) (now (self .exit)) (now (board .entry)) (now (board .exit)) (now (queue .entry)) (now (queue .exit)) r ⌝ }
     {
-        let fresh = felt & felt_at(&self.guide, &Unmarked { board }, self.cell);
+        let fresh = new_bits(&self.guide, self.cell, felt, board);
         mark_around(&self.guide, self.cell, felt, board);
         cut_around(&self.guide, self.cell, fresh, board);
         let new = fresh.count_ones();
@@ -97,6 +97,13 @@ impl<G: Guide> Drive<G> {
         set_stage(board, cell, self.searches, Stage::Waiting(value, cell));
         self.waiting = push(queue, 0, Entry { value, cell }).unwrap_or(0);
     }
+}
+
+// The rock cells of a felt byte that are not yet marked as rock.
+fn new_bits<L: Lattice, M: Copy>(lattice: &L, here: u32, felt: u8, board: &[Square<M>]) -> u8
+    ensures { λ r. ⌜ r ≡ new-bits (L·Lattice .grid (now (lattice .entry))) here felt (now (board .entry)) ⌝ }
+{
+    felt & felt_at(lattice, &Unmarked { board }, here)
 }
 
 // The cells that are not marked as rock.

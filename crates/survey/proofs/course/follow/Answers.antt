@@ -11,8 +11,7 @@ loop-holds g c = (refl, record { rows = []; penned = penned-none (c .args .pen .
 pub loop-again : need.loop-again
 loop-again g c =
     let rows = c .loop .inv .1 .rows in
-    let row : Row = record { cell = c .in-Continue-cell .cell; length = c .tell-in-loop .result .length } in
-    (
+    let row : Row = record { cell = c .in-Continue-cell .cell; length = c .tell-in-loop .result .length } in (
       omega arith,
       record {
         rows = rows ++ row ∷ [];
