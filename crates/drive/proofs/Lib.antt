@@ -7,3 +7,4 @@ pub mod Marking
 pub mod Cutting
 pub mod Looking
 pub mod Lending
+pub mod Standing

@@ -7,6 +7,7 @@ use Rattle.model.proofs.Voided.{vetted-fits}
 use Rattle.std.specs.declared.option.Option.the-variants.{Some, None}
 use Rattle.drive.specs.Worlds.{over}
 use Rattle.drive.specs.Beginning.{begun, Laid}
+use Rattle.drive.proofs.Standing.{begun-stands}
 use Rattle.drive.proofs.Refusing.{refused-is, allowed-is, some-or-none}
 use Rattle.drive.proofs.begin.begin.Needs as need
 
@@ -18,6 +19,7 @@ returns-in-Err g c =
       made = c .void .ensures ∙ ap (λ o. begun (c .args .guide) o (g .C·Carrier .ground (c .args .carrier .now) .at) (g .G·Guide .aim (c .args .guide) .goal)) (sym refusal);
       laid = λ e. absurd (some-or-none void e);
       untouched = λ e q. refl;
+      fresh = λ e. absurd (some-or-none void e);
       promise = λ e. absurd (some-or-none void e);
     }
 
@@ -36,6 +38,7 @@ returns g c =
       made = new ∙ ap (λ o. begun (c .args .guide) o (ground .at) (aim .goal)) (sym accepts);
       laid = λ _. subst At (c .cell-start .ensures) (c .lay-out .ensures);
       untouched = λ e q. absurd (some-or-none q (ap (λ d. d .void) (c .at .ensures)));
+      fresh = λ _. begun-stands (over l ground aim (g .M·Measure .scale)) (g .M·Measure .value) (c .args .guide) (c .at .result) (c .args .board .now) (c .lay-out .last .board) new (subst At (c .cell-start .ensures) (c .lay-out .ensures));
       promise = λ _ same ks.
           new-drive-keeps (over l ground aim (g .M·Measure .scale)) (record {
             lattice = g .G·Lattice·met .lawful (c .args .guide);
