@@ -73,7 +73,7 @@ fn read_sheet<'a>(lines: &mut Lines<'a>, heading: Heading) -> Result<Site<'a>, S
     ensures { λ r. ⌜ mapped site-value (λ e. e) r ≡ site-under heading (now (now (lines .entry) .rest)) ⌝ }
 {
     check_word_alone(lines, "PLAN")?;
-    let rows = lines.rest();
+    let rows = lines.rest;
     check_rows(lines, &heading)?;
     check_word_alone(lines, "END")?;
     lines.end()?;
