@@ -1,5 +1,5 @@
 -- Words as they are compared, and the ways of the check of a line against its word.
-use mathlib.Core.Path.{_≡_, refl, sym, _∙_}
+use mathlib.Core.Path.{_≡_, refl, sym, ap, _∙_}
 use mathlib.Core.Bool.{Bool, true, false, cond, _&&_}
 use mathlib.Core.List.{List}
 use Prim.Native.Nat.{ℕ, _+_, _*_, _<_, _≤_, min}
@@ -9,10 +9,12 @@ use lib.ListN.{length, take}
 use Rattle.std.specs.Lexical.{Matches}
 use Rattle.std.specs.Orderings.{Decides}
 use Rattle.std.specs.shelf.Text.{sameBytes}
+use Rattle.std.specs.declared.result.Result.{Result}
 use Rattle.std.specs.declared.result.Result.the-variants.{Ok, Err}
 use Rattle.std.proofs.shelf.Equals.{matches-decides, sameBytes-decides}
 use Rattle.std.proofs.shelf.Tests.{lt-ltb, le-ltb, eqb-true}
 use Rattle.std.proofs.shelf.Ways.{same-from-decides, decides-like}
+use Rattle.filing.specs.declared.fault.Place.{Place}
 use Rattle.filing.specs.declared.fault.TextFault.{TextFault}
 use Rattle.filing.specs.declared.fault.TextFault.the-variants.{Length, Word}
 use Rattle.filing.specs.Lines.{TextLine, in-line}
@@ -52,3 +54,10 @@ right-length l right h = by (eqb (length (l .bytes)) right) (l .ended) refl refl
     by true true p q g = (eqb-true (length (l .bytes)) right p, q)
     by true false p q g = absurd (clash g)
     by false b p q g = absurd (clash g)
+
+-- a place, and a word with its fields, at an equal column or count
+pub at-column : (l : TextLine) {p : Place} (c d : ℕ) → p ≡ in-line l c → c ≡ d → p ≡ in-line l d
+at-column l c d h e = h ∙ ap (λ k. in-line l k) e
+
+pub with-fields : (l : TextLine) (w : List ℕ) {r : Result (Unit {0}) TextFault} (k m : ℕ) → r ≡ word-check l w k → k ≡ m → r ≡ word-check l w m
+with-fields l w k m h e = h ∙ ap (λ n. word-check l w n) e

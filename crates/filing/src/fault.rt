@@ -133,18 +133,18 @@ impl SiteFault {
 }
 
 pub impl From<TextFault> for SiteFault as SiteFaultFromText {
-    ghost converts = { λ fault r. r ≡ site-text fault };
+    ghost converts = { λ below r. r ≡ site-text below };
 
-    fn from(fault: TextFault) -> SiteFault {
-        SiteFault::Text(fault)
+    fn from(below: TextFault) -> SiteFault {
+        SiteFault::Text(below)
     }
 }
 
 pub impl From<HeadingFault> for SiteFault as SiteFaultFromHeading {
-    ghost converts = { λ fault r. r ≡ site-heading fault };
+    ghost converts = { λ below r. r ≡ site-heading below };
 
-    fn from(fault: HeadingFault) -> SiteFault {
-        SiteFault::Heading(fault)
+    fn from(below: HeadingFault) -> SiteFault {
+        SiteFault::Heading(below)
     }
 }
 

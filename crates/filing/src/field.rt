@@ -11,6 +11,9 @@ use crate::lines::Line;
 // How many columns a field has.
 pub const COLUMNS: usize = 10;
 
+// What stands before the number.
+const BLANK: u8 = b' ';
+
 // A field of a line: a part of the line, with the place where it begins.
 #[derive(Clone, Copy)]
 pub struct Field<'a> {
@@ -60,7 +63,7 @@ fn blanks(columns: &[u8]) -> usize
     ensures behind { λ r. ⌜ drop r (now (columns .entry)) ≡ behind-blanks (now (columns .entry)) ⌝ }
 {
     for (i, byte) in columns.iter().enumerate() {
-        if *byte != b' ' {
+        if *byte != BLANK {
             return i;
         }
     }

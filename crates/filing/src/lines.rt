@@ -22,7 +22,7 @@ pub struct Line<'a> {
 // The lines that are left of a text, and the number of the first of them.
 #[derive(Clone, Copy)]
 pub struct Lines<'a> {
-    rest: &'a [u8],
+    pub(crate) rest: &'a [u8],
     number: u32,
 }
 
@@ -92,13 +92,6 @@ impl<'a> Lines<'a> {
         } else {
             Err(TextFault::Extent(self.place()))
         }
-    }
-
-    // What is left of the text.
-    pub fn rest(&self) -> &'a [u8]
-        ensures { λ r. ⌜ now r ≡ now (now (self .entry) .rest) ⌝ }
-    {
-        self.rest
     }
 
     // The place where the next line begins.

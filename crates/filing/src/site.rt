@@ -73,7 +73,7 @@ fn read_sheet<'a>(lines: &mut Lines<'a>, heading: Heading) -> Result<Site<'a>, S
     ensures { λ r. ⌜ mapped site-value (λ e. e) r ≡ site-under heading (now (now (lines .entry) .rest)) ⌝ }
 {
     check_word_alone(lines, "PLAN")?;
-    let rows = lines.rest();
+    let rows = lines.rest;
     check_rows(lines, &heading)?;
     check_word_alone(lines, "END")?;
     lines.end()?;
@@ -157,4 +157,149 @@ fn check_ends(heading: &Heading, sheet: &[u8]) -> Result<(), SiteFault>
         return Err(SiteFault::GoalOffFloor(in_column(GOAL)));
     }
     Ok(())
+}
+
+#[cfg(test)]
+mod tests {
+    use super::*;
+    use crate::fault::Report;
+    use crate::fault::ReportDebug;
+    use crate::fault::ReportPartialEq;
+    use std::test::*;
+
+    const FIRST: &[u8] = b"SITE         3         2         0         5         4         1\n";
+
+    const REST: &[u8] = b"PLAN\n..#\n#..\nEND\n";
+
+    // The report on a text of two parts, with zeros where it is accepted.
+    fn report(heap: Global, first: &[u8], rest: &[u8]) -> Result<Report, AllocError> {
+        let mut text = first.to_vec(heap)?;
+        text.extend_from_slice(rest)?;
+        Ok(
+            match read_site(text.as_slice()) {
+                Ok(_) => Report {
+                    number: 0,
+                    line: 0,
+                    column: 0,
+                },
+                Err(fault) => fault.report(),
+            },
+        )
+    }
+
+    #[test]
+    fn reads_a_site(rt: LibcRuntime) -> Result<(), Fail> {
+        let mut text = FIRST.to_vec(rt.alloc())?;
+        text.extend_from_slice(REST)?;
+        let Ok(site) = read_site(text.as_slice()) else {
+            return Err(Fail::new("refused"));
+        };
+        check_eq(site.heading.goal, 5)?;
+        let cells = site.cells(rt.alloc())?;
+        check(cells.as_slice() == b"..##..")
+    }
+
+    #[test]
+    fn refuses_a_first_line(rt: LibcRuntime) -> Result<(), Fail> {
+        let firsts: [(&[u8], u32, u32); 13] = [
+            (b"S", 20, 2),
+            (b"XITE", 21, 1),
+            (
+                b"SITE         3         2         x         5         4         1",
+                20,
+                65,
+            ),
+            (
+                b"SITE         3         2         0         5         4         1\r\n",
+                20,
+                65,
+            ),
+            (
+                b"SITE         3        02         0         5         4         1\n",
+                22,
+                15,
+            ),
+            (
+                b"SITE         3         2         04294967296         4         1\n",
+                22,
+                35,
+            ),
+            (
+                b"SITE        65         2         0         5         6         1\n",
+                24,
+                45,
+            ),
+            (
+                b"SITE        65         2         0         5         4         3\n",
+                24,
+                55,
+            ),
+            (
+                b"SITE         0        65         0         5         4         1\n",
+                1,
+                5,
+            ),
+            (
+                b"SITE        27        19         0         5         4         1\n",
+                25,
+                5,
+            ),
+            (
+                b"SITE         3         2         6         5         4         1\n",
+                6,
+                25,
+            ),
+            (
+                b"SITE         3         2         2         6         4         1\n",
+                7,
+                25,
+            ),
+            (
+                b"SITE         3         2         0         6         4         1\n",
+                8,
+                35,
+            ),
+        ];
+        for (first, number, column) in firsts {
+            let expected = Report {
+                number,
+                line: 1,
+                column,
+            };
+            check_eq(
+                report(rt.alloc(), first, if number < 20 { REST } else { b"" })?,
+                expected,
+            )?;
+        }
+        Ok(())
+    }
+
+    #[test]
+    fn refuses_lines_below(rt: LibcRuntime) -> Result<(), Fail> {
+        let rests: [(&[u8], u32, u32, u32); 9] = [
+            (b"", 23, 2, 1),
+            (b"PLANE\n", 20, 2, 5),
+            (b"PLAN\n.x#\n#.\n", 3, 3, 2),
+            (b"PLAN\n..#\n#.\n", 20, 4, 3),
+            (b"PLAN\n..#\nEND\n", 3, 4, 1),
+            (b"PLAN\n..#\n#..\n", 23, 5, 1),
+            (b"PLAN\n..#\n#..\n...\nEND\n", 21, 5, 1),
+            (b"PLAN\n..#\n#..\nEND", 20, 5, 4),
+            (b"PLAN\n..#\n#..\nEND\n\n", 23, 6, 1),
+        ];
+        for (rest, number, line, column) in rests {
+            let expected = Report {
+                number,
+                line,
+                column,
+            };
+            check_eq(report(rt.alloc(), FIRST, rest)?, expected)?;
+        }
+        let expected = Report {
+            number: 26,
+            line: 0,
+            column: 0,
+        };
+        check_eq(report(rt.alloc(), FIRST, &[b' '; 4032])?, expected)
+    }
 }

@@ -8,8 +8,8 @@ use Rattle.std.proofs.shelf.Tests.{eq-eqb, ne-eqb}
 use Rattle.filing.specs.Numerals.{behind-blanks}
 use Rattle.filing.proofs.field.blanks.Needs as need
 
-pub returns-then-byte-ne32 : need.returns-then-byte-ne32
-returns-then-byte-ne32 c =
+pub returns-then-byte-ne-BLANK : need.returns-then-byte-ne-BLANK
+returns-then-byte-ne-BLANK c =
     let t = c .args .columns .now in
     let i = c .loop-i .i in
     record { within = omega arith; behind = behind t i (omega arith) (λ e. omega arith) ∙ c .loop-i .inv }

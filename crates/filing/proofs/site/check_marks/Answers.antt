@@ -10,6 +10,7 @@ use Rattle.std.proofs.shelf.Ways.{tells}
 use Rattle.filing.specs.declared.fault.SiteFault.the-variants.{Foreign}
 use Rattle.filing.specs.Lines.{TextLine, line-text, in-line}
 use Rattle.filing.specs.Site.{is-mark, marks-check}
+use Rattle.filing.proofs.Words.{at-column}
 use Rattle.filing.proofs.site.check_marks.Needs as need
 
 -- the check from byte i on, if that byte is a mark, and if not
@@ -25,7 +26,7 @@ returns-in-rest c =
     let t = c .args .line .now .bytes .now in
     let i = c .loop-i .i in
     let e : is-mark (getD t i 0) ≡ false = grind (arith, tells) in
-    ap (λ p. Err (Foreign p)) (c .place .ensures) ∙ sym (foreign l (i + 1) t i (omega arith) e) ∙ c .loop-i .inv
+    ap (λ p. Err (Foreign p)) (at-column l _ (i + 1) (c .place .ensures) (omega arith)) ∙ sym (foreign l (i + 1) t i (omega arith) e) ∙ c .loop-i .inv
 
 pub loop-i-again : need.loop-i-again
 loop-i-again c =

@@ -1,7 +1,9 @@
 use mathlib.Core.Path.{ap, _∙_}
+use native.Mathlib.Omega.{arith}
 use Rattle.std.proofs.shelf.Results.{made-from-err}
 use Rattle.filing.specs.Site.{in-text, word-alone}
 use Rattle.filing.proofs.Steps.{on, handed-on}
+use Rattle.filing.proofs.Words.{with-fields}
 use Rattle.filing.proofs.site.check_word_alone.Needs as need
 
 pub returns-in-Break-due : need.returns-in-Break-due
@@ -17,7 +19,7 @@ pub returns-in-Break-check-word : need.returns-in-Break-check-word
 unfolding word-alone
 returns-in-Break-check-word c =
     record {
-      checked = handed-on _ _ (c .from-residual-in-Break-check-word .ensures .1) ∙ ap in-text (c .in-Break-check-word .ensures tt ∙ on _ (c .in-Continue-due .ensures tt .line));
+      checked = handed-on _ _ (c .from-residual-in-Break-check-word .ensures .1) ∙ ap in-text (with-fields _ _ _ 0 (c .in-Break-check-word .ensures tt) (omega arith) ∙ on _ (c .in-Continue-due .ensures tt .line));
       rest = c .due .ensures .rest;
       number = made-from-err _ _ (c .from-residual-in-Break-check-word .ensures .0);
     }
@@ -26,7 +28,7 @@ pub returns : need.returns
 unfolding word-alone
 returns c =
     record {
-      checked = ap in-text (c .in-Continue-check-word .ensures tt ∙ on _ (c .in-Continue-due .ensures tt .line));
+      checked = ap in-text (with-fields _ _ _ 0 (c .in-Continue-check-word .ensures tt) (omega arith) ∙ on _ (c .in-Continue-due .ensures tt .line));
       rest = c .due .ensures .rest;
       number = c .in-Continue-due .ensures tt .number;
     }

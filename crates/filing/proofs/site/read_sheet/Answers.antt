@@ -58,7 +58,6 @@ part-sheet-end c =
     let h = c .args .heading in
     let rows = c .check-word-alone .last .lines .rest .now in
     let long = rows-long (h .height) (h .width) 3 rows (sym (c .in-Continue-check-rows .ensures tt .checked)) in
-    let same = ap (λ (t : List ℕ). length t) (c .rest-rows .ensures) in
     omega arith
 
 pub check-ends-requires : need.check-ends-requires
@@ -68,7 +67,7 @@ check-ends-requires c κs =
     let long = rows-long (h .height) (h .width) 3 rows (sym (c .in-Continue-check-rows .ensures tt .checked)) in (
       c .pre .0,
       c .pre .1,
-      ap (λ (t : List ℕ). length t) (part (h .height * (h .width + 1)) rows (c .rest-rows .result .now) (c .rest-rows .ensures))
+      ap (λ (t : List ℕ). length t) (part (h .height * (h .width + 1)) rows (c .check-word-alone .last .lines .rest .now) refl)
           ∙ length-take-le (h .height * (h .width + 1)) rows long,
     )
 
@@ -80,7 +79,7 @@ returns-in-Break-check-ends c =
     ap (mapped site-value (λ e. e)) (handed-on _ _ (c .from-residual-in-Break-check-ends .ensures .1))
     ∙ ends-wrong h (c .args .lines .now .rest .now) (c .pre .2) (c .in-Continue-check-word-alone .ensures tt .checked) (c .check-word-alone .ensures .rest)
     (rows .checked) (rows .number) (rows .rest) (end .checked) (c .pre .1) (end .number) (end .rest) (c .in-Continue-end .ensures tt)
-    (part (h .height * (h .width + 1)) (c .check-word-alone .last .lines .rest .now) (c .rest-rows .result .now) (c .rest-rows .ensures)) _ (c .in-Break-check-ends .ensures tt)
+    (part (h .height * (h .width + 1)) (c .check-word-alone .last .lines .rest .now) (c .check-word-alone .last .lines .rest .now) refl) _ (c .in-Break-check-ends .ensures tt)
 
 pub returns : need.returns
 returns c =
@@ -89,4 +88,4 @@ returns c =
     let end = c .in-Continue-check-word-alone-2 .ensures tt in
     all-right h (c .args .lines .now .rest .now) (c .pre .2) (c .in-Continue-check-word-alone .ensures tt .checked) (c .check-word-alone .ensures .rest)
     (rows .checked) (rows .number) (rows .rest) (end .checked) (c .pre .1) (end .number) (end .rest) (c .in-Continue-end .ensures tt)
-    (part (h .height * (h .width + 1)) (c .check-word-alone .last .lines .rest .now) (c .rest-rows .result .now) (c .rest-rows .ensures)) (c .in-Continue-check-ends .ensures tt)
+    (part (h .height * (h .width + 1)) (c .check-word-alone .last .lines .rest .now) (c .check-word-alone .last .lines .rest .now) refl) (c .in-Continue-check-ends .ensures tt)

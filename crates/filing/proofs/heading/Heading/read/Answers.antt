@@ -1,20 +1,22 @@
 use mathlib.Core.Path.{_∙_}
+use native.Mathlib.Omega.{arith}
 use Rattle.filing.specs.FirstLines.{heading-of}
 use Rattle.filing.proofs.Steps.{on, handed-on}
+use Rattle.filing.proofs.Words.{with-fields}
 use Rattle.filing.proofs.heading.Heading.read.Needs as need
 
 pub returns-in-Break-check-word : need.returns-in-Break-check-word
 unfolding heading-of
 returns-in-Break-check-word c =
     handed-on _ _ (c .from-residual .ensures .1)
-    ∙ on _ (c .in-Break-check-word .ensures tt)
+    ∙ on _ (with-fields _ _ _ 6 (c .in-Break-check-word .ensures tt) (omega arith))
 
 pub returns-in-Break-number : need.returns-in-Break-number
 unfolding heading-of
 returns-in-Break-number c =
     handed-on _ _ (c .from-residual-in-Break-number .ensures .1)
     ∙ on _ (c .in-Break-number .ensures tt)
-    ∙ on _ (c .in-Continue-check-word .ensures tt)
+    ∙ on _ (with-fields _ _ _ 6 (c .in-Continue-check-word .ensures tt) (omega arith))
 
 pub returns-in-Break-number-2 : need.returns-in-Break-number-2
 unfolding heading-of
@@ -22,7 +24,7 @@ returns-in-Break-number-2 c =
     handed-on _ _ (c .from-residual-in-Break-number-2 .ensures .1)
     ∙ on _ (c .in-Break-number-2 .ensures tt)
     ∙ on _ (c .in-Continue-number .ensures tt)
-    ∙ on _ (c .in-Continue-check-word .ensures tt)
+    ∙ on _ (with-fields _ _ _ 6 (c .in-Continue-check-word .ensures tt) (omega arith))
 
 pub returns-in-Break-number-3 : need.returns-in-Break-number-3
 unfolding heading-of
@@ -31,7 +33,7 @@ returns-in-Break-number-3 c =
     ∙ on _ (c .in-Break-number-3 .ensures tt)
     ∙ on _ (c .in-Continue-number-2 .ensures tt)
     ∙ on _ (c .in-Continue-number .ensures tt)
-    ∙ on _ (c .in-Continue-check-word .ensures tt)
+    ∙ on _ (with-fields _ _ _ 6 (c .in-Continue-check-word .ensures tt) (omega arith))
 
 pub returns-in-Break-number-4 : need.returns-in-Break-number-4
 unfolding heading-of
@@ -41,7 +43,7 @@ returns-in-Break-number-4 c =
     ∙ on _ (c .in-Continue-number-3 .ensures tt)
     ∙ on _ (c .in-Continue-number-2 .ensures tt)
     ∙ on _ (c .in-Continue-number .ensures tt)
-    ∙ on _ (c .in-Continue-check-word .ensures tt)
+    ∙ on _ (with-fields _ _ _ 6 (c .in-Continue-check-word .ensures tt) (omega arith))
 
 pub returns-in-Break-number-5 : need.returns-in-Break-number-5
 unfolding heading-of
@@ -52,7 +54,7 @@ returns-in-Break-number-5 c =
     ∙ on _ (c .in-Continue-number-3 .ensures tt)
     ∙ on _ (c .in-Continue-number-2 .ensures tt)
     ∙ on _ (c .in-Continue-number .ensures tt)
-    ∙ on _ (c .in-Continue-check-word .ensures tt)
+    ∙ on _ (with-fields _ _ _ 6 (c .in-Continue-check-word .ensures tt) (omega arith))
 
 pub returns-in-Break-number-6 : need.returns-in-Break-number-6
 unfolding heading-of
@@ -64,7 +66,7 @@ returns-in-Break-number-6 c =
     ∙ on _ (c .in-Continue-number-3 .ensures tt)
     ∙ on _ (c .in-Continue-number-2 .ensures tt)
     ∙ on _ (c .in-Continue-number .ensures tt)
-    ∙ on _ (c .in-Continue-check-word .ensures tt)
+    ∙ on _ (with-fields _ _ _ 6 (c .in-Continue-check-word .ensures tt) (omega arith))
 
 pub returns : need.returns
 unfolding heading-of
@@ -75,4 +77,4 @@ returns c =
     ∙ on _ (c .in-Continue-number-3 .ensures tt)
     ∙ on _ (c .in-Continue-number-2 .ensures tt)
     ∙ on _ (c .in-Continue-number .ensures tt)
-    ∙ on _ (c .in-Continue-check-word .ensures tt)
+    ∙ on _ (with-fields _ _ _ 6 (c .in-Continue-check-word .ensures tt) (omega arith))

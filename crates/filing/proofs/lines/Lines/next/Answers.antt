@@ -36,5 +36,5 @@ returns c =
         | then-line w ↦ ap now (w .self-is) ∙ cut-ended k t e
         | else-line w ↦ ap now (w .self-is) ∙ cut-unended k t e (ltb-false k (length t) (w .if-line .left))
       ];
-      number = c .saturating-add-self .ensures;
+      number = omega arith;
     }

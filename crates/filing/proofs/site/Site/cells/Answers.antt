@@ -43,4 +43,4 @@ loop-row-again c =
     let h = c .args .self .now .heading in
     let s = c .loop-row .rest .now in
     row (h .width) (h .height) (c .loop-row .-row) (vec-items (c .loop-row .cells)) (vec-items (c .extend-from-slice .last .self)) s _ (c .min .result) (c .min-in-loop-row .result)
-    (omega arith) (c .loop-row .inv) (c .min .ensures) (c .min-in-loop-row .ensures) (c .in-Continue-extend-from-slice .ensures tt .items)
+    (omega arith) (c .loop-row .inv) (omega arith) (omega arith) (c .in-Continue-extend-from-slice .ensures tt .items)
