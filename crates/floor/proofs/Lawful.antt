@@ -1,15 +1,14 @@
 -- A lattice of directions on a floor is lawful, if the opposite of each is one of them.
 use mathlib.Core.Path.{_≡_, refl, sym, _∙_, ap, ap₂, subst}
 use mathlib.Core.Bool.{Bool, true, false, cond, _&&_}
-use Prim.Native.Nat.{ℕ, _+_, _*_, _/_, _%_, _≤_, _<_}
+use Prim.Native.Nat.{ℕ, _*_, _/_, _%_, _≤_}
 use native.Mathlib.Nat.{mul-le-mul}
 use native.Mathlib.Omega.{arith}
-use Rattle.std.specs.declared.option.Option.{Option}
 use Rattle.std.specs.declared.option.Option.the-variants.{Some, None}
 use Rattle.model.specs.Lattice.{Lattice, Lawful}
 use Rattle.model.specs.Floors.{same, column-way, row-way, floor-beside, used, odd, facing, streets, kings}
 use Rattle.model.proofs.Basics.Tests.{none-some}
-use Rattle.floor.proofs.Ways.{both, used-bounds, direction-of, known-by-ways, turned, facing-column, facing-row, facing-used, facing-straight, Goes, goes-back, goes-one-way}
+use Rattle.floor.proofs.Ways.{both, used-bounds, direction-of, known-by-ways, facing-column, facing-row, facing-used, facing-straight, Goes, goes-back, goes-one-way}
 use Rattle.floor.proofs.Steps.{Stepped, stepped, steps}
 
 -- the lattice of the directions that pass a test

@@ -58,7 +58,7 @@ pub trait Guide: Lattice {
     }
 }
 
-// A lattice that knows the distance from each of its cells to whatever goal.
+// A lattice that knows the distance from each of its cells to any goal.
 pub trait Metric: Lattice {
     // the goal and the distances to it
     ghost towards: { Self → ℕ → Aim };
