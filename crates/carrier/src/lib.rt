@@ -7,6 +7,8 @@ ghost use Rattle.model.specs.Ground.{Ground, feels, lands, can-step};
 use floor::Lattice;
 
 pub mod part;
+pub mod pillar;
+pub mod pillars;
 pub mod rocks;
 pub mod sheet;
 pub mod unfit;

@@ -28,11 +28,11 @@ same s long inside «open» i = record {
 pub returns-in-None : need.returns-in-None
 returns-in-None g c =
     let s = c .args .self .now in
-    let stays = steps-nowhere (part-of (g .L·Lattice .grid (s .floor .lattice)) (s .floor .size)) (record { rock = sheet-rock (vec-items (s .rocks .bytes)); at = s .at }) (c .args .direction) (c .in-None .ensures tt) in
+    let stays = steps-nowhere (part-of (g .L·Lattice .grid (s .floor .lattice)) (s .floor .size)) (record { rock = sheet-rock (vec-items (s .rocks .bytes)); at = s .at }) (c .args .direction) (cc (c .in-None .ensures tt)) in
     record { answers = stays .0; moves = stays .1; unmoved = λ _. sym (same s _ _ _); stays = refl }
 
 pub returns-in-Some : need.returns-in-Some
 returns-in-Some g c =
     let s = c .args .self .now in
-    let moves = steps-free (part-of (g .L·Lattice .grid (s .floor .lattice)) (s .floor .size)) (record { rock = sheet-rock (vec-items (s .rocks .bytes)); at = s .at }) (c .args .direction) (c .in-Some .next) (c .in-Some .ensures tt) in
+    let moves = steps-free (part-of (g .L·Lattice .grid (s .floor .lattice)) (s .floor .size)) (record { rock = sheet-rock (vec-items (s .rocks .bytes)); at = s .at }) (c .args .direction) (c .in-Some .next) (cc (c .in-Some .ensures tt)) in
     record { answers = moves .0; moves = moves .1; unmoved = λ e. absurd (clash (sym e)); stays = refl }
