@@ -11,6 +11,8 @@ pub mod pillar;
 pub mod pillars;
 pub mod rocks;
 pub mod sheet;
+#[cfg(test)]
+mod tests;
 pub mod unfit;
 
 // What drives over a lattice of its own kind, feels the rock beside it, and stands on a passable cell.
