@@ -2,3 +2,4 @@ pub mod Parting
 pub mod Feeling
 pub mod Sheets
 pub mod Stepping
+pub mod Covering

@@ -55,10 +55,10 @@ whole-beside l w a d = go (l .beside a d) refl
         none false = refl
 
 -- all the cells of a lattice are the lattice
-pub whole : (l : Lattice) → Lawful l → part-of l (l .size) ≡ l
-whole l w i = record {
+pub whole : (l : Lattice) → Lawful l → (n : ℕ) → n ≡ l .size → part-of l n ≡ l
+whole l w n e = ap (part-of l) e ∙ (λ i. record {
   size = l .size;
   beside = fun-ext (λ a. fun-ext (λ d. whole-beside l w a d)) i;
   cost = l .cost;
   opposite = l .opposite;
-}
+})

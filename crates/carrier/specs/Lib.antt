@@ -3,3 +3,4 @@ pub mod Parts
 pub mod Steps
 pub mod Unfits
 pub mod Sheets
+pub mod Pillars

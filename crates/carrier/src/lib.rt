@@ -7,8 +7,12 @@ ghost use Rattle.model.specs.Ground.{Ground, feels, lands, can-step};
 use floor::Lattice;
 
 pub mod part;
+pub mod pillar;
+pub mod pillars;
 pub mod rocks;
 pub mod sheet;
+#[cfg(test)]
+mod tests;
 pub mod unfit;
 
 // What drives over a lattice of its own kind, feels the rock beside it, and stands on a passable cell.

@@ -1,11 +1,10 @@
-use mathlib.Core.Path.{_≡_, refl}
+use mathlib.Core.Path.{_≡_, refl, sym}
 use mathlib.Core.Bool.{false, Bool-set}
 use Prim.Native.Nat.{_<_}
 use native.Mathlib.Bridge.{le-prop}
 use native.Mathlib.Nat.{ℕ-set}
-use native.Mathlib.Omega.{arith}
+use borrow.Author.Needs.{needs}
 use borrow.Author.Tests.{clash}
-use mathlib.Core.Path.{sym}
 use Rattle.std.specs.Of.Vec.{vec-items, vec-len}
 use Rattle.carrier.specs.declared.sheet.Sheet.{Sheet}
 use Rattle.carrier.specs.Parts.{part-of}
@@ -28,11 +27,15 @@ same s long inside «open» i = record {
 pub returns-in-None : need.returns-in-None
 returns-in-None g c =
     let s = c .args .self .now in
-    let stays = steps-nowhere (part-of (g .L·Lattice .grid (s .floor .lattice)) (s .floor .size)) (record { rock = sheet-rock (vec-items (s .rocks .bytes)); at = s .at }) (c .args .direction) (c .in-None .ensures tt) in
+    let l = part-of (g .L·Lattice .grid (s .floor .lattice)) (s .floor .size) in
+    let told = c .in-None .ensures tt in
+    let stays = steps-nowhere l (record { rock = sheet-rock (vec-items (s .rocks .bytes)); at = s .at }) (c .args .direction) (search needs) in
     record { answers = stays .0; moves = stays .1; unmoved = λ _. sym (same s _ _ _); stays = refl }
 
 pub returns-in-Some : need.returns-in-Some
 returns-in-Some g c =
     let s = c .args .self .now in
-    let moves = steps-free (part-of (g .L·Lattice .grid (s .floor .lattice)) (s .floor .size)) (record { rock = sheet-rock (vec-items (s .rocks .bytes)); at = s .at }) (c .args .direction) (c .in-Some .next) (c .in-Some .ensures tt) in
+    let l = part-of (g .L·Lattice .grid (s .floor .lattice)) (s .floor .size) in
+    let told = c .in-Some .ensures tt in
+    let moves = steps-free l (record { rock = sheet-rock (vec-items (s .rocks .bytes)); at = s .at }) (c .args .direction) (c .in-Some .next) (search needs) in
     record { answers = moves .0; moves = moves .1; unmoved = λ e. absurd (clash (sym e)); stays = refl }
