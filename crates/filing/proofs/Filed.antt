@@ -10,10 +10,10 @@ use Rattle.std.proofs.shelf.Lists.{append-nil, length-push}
 use Rattle.std.proofs.shelf.Tests.{leb-true, and-parts, cond-true}
 use Rattle.std.specs.declared.result.Result.{Result}
 use Rattle.std.specs.declared.result.Result.the-variants.{Ok, Err}
-use Rattle.filing.specs.declared.fault.HeadingFault.{HeadingFault}
+use Rattle.texts.specs.declared.fault.HeadingFault.{HeadingFault}
 use Rattle.filing.specs.declared.fault.PenFault.{PenFault}
 use Rattle.filing.specs.declared.fault.PenFault.the-variants.{Full}
-use Rattle.filing.specs.declared.heading.Heading.{Heading}
+use Rattle.texts.specs.declared.heading.Heading.{Heading}
 use Rattle.filing.specs.declared.pen.Ending.{Ending}
 use Rattle.filing.specs.declared.pen.Pen.{Pen}
 use Rattle.filing.specs.declared.pen.Row.{Row}

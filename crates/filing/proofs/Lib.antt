@@ -1,12 +1,3 @@
--- Lemmas on texts.
+-- Lemmas on records.
 pub mod Writing
 pub mod Filed
-pub mod Cuts
-pub mod Numerals
-pub mod Words
-pub mod Written
-pub mod Steps
-pub mod Sheets
-pub mod Rows
-pub mod Under
-pub mod Accepting

@@ -12,10 +12,10 @@ use lib.Seq.{paste}
 use Rattle.std.proofs.shelf.Lists.{append-nil, take-append-drop, length-take-le, take-more}
 use Rattle.std.proofs.shelf.Edits.{paste-all, paste-paste}
 use Rattle.std.proofs.shelf.Tests.{ne-eqb, cond-both}
-use Rattle.filing.specs.declared.heading.Heading.{Heading}
+use Rattle.texts.specs.declared.heading.Heading.{Heading}
 use Rattle.filing.specs.declared.pen.Ending.{Ending}
 use Rattle.filing.specs.declared.pen.Ending.the-variants.{Done, Shut}
-use Rattle.filing.specs.Fields.{column, field-text}
+use Rattle.texts.specs.Fields.{column, field-text}
 use Rattle.filing.specs.Pen.{path-line, row-line, closing-line}
 use Rattle.filing.specs.Written.{overwritten, fields-text, written-line}
 

@@ -1,42 +1,8 @@
--- The number, line and column that each fault is reported with.
-use Prim.Native.Nat.{ℕ}
-use Rattle.filing.specs.declared.fault.Place.{Place}
-use Rattle.filing.specs.declared.fault.Report.{Report}
-use Rattle.filing.specs.declared.fault.TextFault.{TextFault}
-use Rattle.filing.specs.declared.fault.TextFault.the-variants as text
-use Rattle.filing.specs.declared.fault.HeadingFault.{HeadingFault}
-use Rattle.filing.specs.declared.fault.HeadingFault.the-variants as heading
-use Rattle.filing.specs.declared.fault.SiteFault.{SiteFault}
-use Rattle.filing.specs.declared.fault.SiteFault.the-variants as site
+-- The number, line and column that a fault of the pen is reported with.
+use Rattle.texts.specs.declared.fault.Report.{Report}
+use Rattle.texts.specs.Faults.{report-alone, heading-report}
 use Rattle.filing.specs.declared.fault.PenFault.{PenFault}
 use Rattle.filing.specs.declared.fault.PenFault.the-variants as pen
-
--- a number with a place, and a number alone
-abbrev pub report-at : ℕ → Place → Report
-report-at n p = record { number = n; line = p .line; column = p .column }
-
-abbrev pub report-alone : ℕ → Report
-report-alone n = record { number = n; line = 0; column = 0 }
-
-abbrev pub text-report : TextFault → Report
-text-report (text.Length p) = report-at 20 p
-text-report (text.Word p) = report-at 21 p
-text-report (text.Field p) = report-at 22 p
-text-report (text.Extent p) = report-at 23 p
-
-abbrev pub heading-report : HeadingFault → Report
-heading-report (heading.Unknown p) = report-at 24 p
-heading-report (heading.Size p) = report-at 1 p
-
-abbrev pub site-report : SiteFault → Report
-site-report (site.Text f) = text-report f
-site-report (site.Heading f) = heading-report f
-site-report site.TooLong = report-alone 26
-site-report (site.TooLarge p) = report-at 25 p
-site-report (site.Foreign p) = report-at 3 p
-site-report (site.StartOffFloor p) = report-at 6 p
-site-report (site.StartOnRock p) = report-at 7 p
-site-report (site.GoalOffFloor p) = report-at 8 p
 
 abbrev pub pen-report : PenFault → Report
 pen-report (pen.Heading f) = heading-report f

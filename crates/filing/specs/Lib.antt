@@ -1,12 +1,4 @@
--- What the contracts of the texts cite.
+-- What the contracts of records cite.
 pub mod Faults
-pub mod Headings
-pub mod Fields
 pub mod Written
 pub mod Pen
-pub mod Lines
-pub mod Numerals
-pub mod Words
-pub mod Steps
-pub mod FirstLines
-pub mod Site

@@ -8,16 +8,16 @@ use lib.Dec.{leb, ltb}
 use lib.ListN.{length}
 use Rattle.std.specs.declared.result.Result.{Result}
 use Rattle.std.specs.declared.result.Result.the-variants.{Ok, Err}
-use Rattle.filing.specs.declared.fault.HeadingFault.{HeadingFault}
+use Rattle.texts.specs.declared.fault.HeadingFault.{HeadingFault}
 use Rattle.filing.specs.declared.fault.PenFault.{PenFault}
 use Rattle.filing.specs.declared.fault.PenFault.the-variants as fault
-use Rattle.filing.specs.declared.heading.Heading.{Heading}
+use Rattle.texts.specs.declared.heading.Heading.{Heading}
 use Rattle.filing.specs.declared.pen.Ending.{Ending}
 use Rattle.filing.specs.declared.pen.Ending.the-variants.{Done, Shut}
 use Rattle.filing.specs.declared.pen.Row.{Row}
 use Rattle.filing.specs.declared.pen.Pen.{Pen}
 use Rattle.filing.specs.declared.pen.Unclosed.{Unclosed}
-use Rattle.filing.specs.Headings.{heading-check}
+use Rattle.texts.specs.Headings.{heading-check}
 use Rattle.filing.specs.Written.{fits, overwritten, written-line}
 
 -- ---- the lines of a record

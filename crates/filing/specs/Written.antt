@@ -6,7 +6,7 @@ use lib.Dec.{leb}
 use lib.ListN.{length, take, drop}
 use Rattle.std.specs.declared.option.Option.{Option}
 use Rattle.std.specs.declared.option.Option.the-variants.{Some, None}
-use Rattle.filing.specs.Fields.{field-text}
+use Rattle.texts.specs.Fields.{field-text}
 
 -- whether so many bytes fit a buffer from a place on
 abbrev pub fits : List ℕ → ℕ → ℕ → Bool

@@ -1,9 +1,4 @@
-// The texts of the planner: site texts and filed records.
+// Filed records: writing them, line by line, into a lent buffer.
 pub mod fault;
-pub mod field;
-pub mod heading;
-pub mod lines;
 pub mod pen;
-pub mod site;
-pub mod word;
 pub mod write;

@@ -11,11 +11,11 @@ ghost use Rattle.filing.specs.declared.fault.PenFault.the-variants as pen-faul
 ghost use Rattle.filing.specs.declared.pen.Ending.the-variants.{Done, Shut};
 ghost use Rattle.filing.specs.Written.{overwritten};
 ghost use Rattle.filing.specs.Pen.{path-line, row-line, Let-go, begin-answer, begin-lines, row-answer, next-line, after-row, close-answer, last-line, rows-fit, file-answer, record-text};
-use crate::fault::HeadingFault;
 use crate::fault::PenFault;
-use crate::heading::Heading;
+use crate::fault::PenFaultFromHeading;
 use crate::write::has_room;
 use crate::write::put_line;
+use texts::heading::Heading;
 
 // The bytes of each kind of line, with its byte 10.
 const PATH_LINE: usize = 65;
@@ -55,14 +55,6 @@ impl Drop for Pen {
             row: _,
             length: _,
         } = self;
-    }
-}
-
-pub impl From<HeadingFault> for PenFault as PenFaultFromHeading {
-    ghost converts = { λ fault r. r ≡ pen-fault.Heading fault };
-
-    fn from(fault: HeadingFault) -> PenFault {
-        PenFault::Heading(fault)
     }
 }
 

@@ -2,10 +2,11 @@
 use Prim.Native.Nat.{ℕ}
 use Rattle.std.specs.declared.option.Option.{Option}
 use Rattle.std.specs.declared.option.Option.the-variants.{Some, None}
-use Rattle.filing.specs.declared.fault.SiteFault.{SiteFault}
-use Rattle.filing.specs.declared.fault.SiteFault.the-variants as site
-use Rattle.filing.specs.declared.fault.Report.{Report}
-use Rattle.filing.specs.Faults.{report-alone, site-report, pen-report}
+use Rattle.texts.specs.declared.fault.SiteFault.{SiteFault}
+use Rattle.texts.specs.declared.fault.SiteFault.the-variants as site
+use Rattle.texts.specs.declared.fault.Report.{Report}
+use Rattle.filing.specs.Faults.{pen-report}
+use Rattle.texts.specs.Faults.{report-alone, site-report}
 use Rattle.drive.specs.Refusals.{refusal-number}
 use Rattle.survey.specs.declared.fault.Fault.{Fault}
 use Rattle.survey.specs.declared.fault.Fault.the-variants as fault

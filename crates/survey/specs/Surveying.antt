@@ -6,13 +6,13 @@ use lib.ListN.{length}
 use Rattle.std.specs.declared.result.Result.{Result}
 use Rattle.std.specs.declared.result.Result.the-variants.{Ok, Err}
 use Rattle.std.specs.Vec.{made}
-use Rattle.filing.specs.declared.fault.SiteFault.{SiteFault}
-use Rattle.filing.specs.declared.heading.Heading.{Heading}
+use Rattle.texts.specs.declared.fault.SiteFault.{SiteFault}
+use Rattle.texts.specs.declared.heading.Heading.{Heading}
 use Rattle.filing.specs.declared.pen.Ending.the-variants.{Done}
 use Rattle.filing.specs.declared.pen.Pen.{Pen}
 use Rattle.filing.specs.declared.pen.Row.{Row}
 use Rattle.filing.specs.Pen.{Penned, record-text}
-use Rattle.filing.specs.Site.{SiteValue}
+use Rattle.texts.specs.Site.{SiteValue}
 use Rattle.filing.specs.Written.{overwritten}
 use Rattle.survey.specs.declared.fault.Fault.{Fault}
 use Rattle.survey.specs.declared.fault.Fault.the-variants as fault

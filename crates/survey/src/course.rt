@@ -6,7 +6,7 @@ ghost use lib.ListN.{length};
 ghost use Rattle.std.specs.Vec.{made};
 ghost use Rattle.filing.specs.declared.pen.Ending.the-variants.{Done};
 ghost use Rattle.filing.specs.Pen.{last-line, pen-behind};
-ghost use Rattle.filing.specs.Site.{site-of};
+ghost use Rattle.texts.specs.Site.{site-of};
 ghost use Rattle.filing.specs.Written.{overwritten};
 ghost use Rattle.survey.specs.Surveying.{SiteFirst, Filed, Course};
 use crate::fault::Fault;
@@ -19,15 +19,8 @@ use drive::board::Square;
 use drive::board::SquareClone;
 use drive::drive::Drive;
 use drive::refusal::Refusal;
-use filing::fault::HeadingFault;
-use filing::fault::SiteFault;
-use filing::heading::HEIGHT;
-use filing::heading::WIDTH;
-use filing::heading::in_column;
 use filing::pen::Pen;
 use filing::pen::Unclosed;
-use filing::site::Site;
-use filing::site::read_site;
 use floor::Guide;
 use floor::Metric;
 use floor::aiming::Aimed;
@@ -51,6 +44,13 @@ use model::Mark;
 use model::Phase;
 use model::PhasePartialEq;
 use std::alloc::Global;
+use texts::fault::HeadingFault;
+use texts::fault::SiteFault;
+use texts::heading::HEIGHT;
+use texts::heading::WIDTH;
+use texts::heading::in_column;
+use texts::site::Site;
+use texts::site::read_site;
 
 // Reads a site text, drives the site, and writes the record of the drive into the buffer: the number of its bytes.
 pub fn survey(heap: Global, text: &[u8], buffer: &mut [u8]) -> Result<usize, Fault>

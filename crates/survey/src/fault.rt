@@ -8,13 +8,13 @@ use drive::refusal::RefusalPartialEq;
 use filing::fault::PenFault;
 use filing::fault::PenFaultDebug;
 use filing::fault::PenFaultPartialEq;
-use filing::fault::Report;
-use filing::fault::ReportDebug;
-use filing::fault::ReportPartialEq;
-use filing::fault::SiteFault;
-use filing::fault::SiteFaultDebug;
-use filing::fault::SiteFaultPartialEq;
 use std::alloc::AllocError;
+use texts::fault::Report;
+use texts::fault::ReportDebug;
+use texts::fault::ReportPartialEq;
+use texts::fault::SiteFault;
+use texts::fault::SiteFaultDebug;
+use texts::fault::SiteFaultPartialEq;
 
 #[derive(Clone, Copy, PartialEq, Eq, Debug)]
 pub enum Fault {

@@ -8,13 +8,13 @@ use Rattle.std.proofs.shelf.Lists.{take-more, take-all}
 use Rattle.std.proofs.shelf.Tests.{cond-true}
 use Rattle.std.specs.declared.result.Result.{Result}
 use Rattle.std.specs.declared.result.Result.the-variants.{Ok, Err}
-use Rattle.filing.specs.declared.fault.HeadingFault.{HeadingFault}
+use Rattle.texts.specs.declared.fault.HeadingFault.{HeadingFault}
 use Rattle.filing.specs.declared.fault.PenFault.{PenFault}
 use Rattle.filing.specs.declared.fault.PenFault.the-variants.{Full}
 use Rattle.filing.specs.declared.pen.Pen.{Pen}
 use Rattle.filing.specs.declared.pen.Row.{Row}
 use Rattle.filing.specs.declared.pen.Unclosed.{Unclosed}
-use Rattle.filing.specs.Headings.{heading-check}
+use Rattle.texts.specs.Headings.{heading-check}
 use Rattle.filing.specs.Pen.{checked, pen-behind, rows-fit, record-text}
 use Rattle.filing.specs.Written.{fits, overwritten}
 use Rattle.filing.proofs.Filed.{room-for-rows, accepted, begun-pen, closed-bytes, penned-none, penned-more, penned-closed}

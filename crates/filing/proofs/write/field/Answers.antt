@@ -1,5 +1,5 @@
 use mathlib.Core.List.{[], _∷_}
-use Rattle.filing.specs.Fields.{field-text}
+use Rattle.texts.specs.Fields.{field-text}
 use Rattle.filing.proofs.write.field.Needs as need
 
 pub returns : need.returns

@@ -4,7 +4,7 @@ use native.Mathlib.Omega.{arith}
 use borrow.Author.Tests.{leb-true}
 use lib.ListN.{length}
 use Rattle.filing.specs.declared.pen.Pen.{Pen}
-use Rattle.filing.specs.Headings.{heading-check}
+use Rattle.texts.specs.Headings.{heading-check}
 use Rattle.filing.specs.Written.{fits}
 use Rattle.filing.proofs.Filed.{begun-pen, begun-checks}
 use Rattle.survey.proofs.Surveying.{closed-course}
