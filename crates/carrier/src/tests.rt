@@ -87,3 +87,19 @@ fn pillars_are_refused(rt: LibcRuntime) -> Result<(), Fail> {
         Some(7),
     )
 }
+
+#[test]
+fn crossed_or_off_the_floor_is_no_rock(rt: LibcRuntime) -> Result<(), Fail> {
+    let crossed = Pillar {
+        left: 2,
+        right: 0,
+        ..MIDDLE
+    };
+    let outside = Pillar {
+        top: 3,
+        bottom: 9,
+        ..MIDDLE
+    };
+    let pillars = Pillars::new(rt.alloc(), Streets::new(3, 3)?, 3, &[crossed, outside], 4)?;
+    check_eq(pillars.feel(), 0)
+}
