@@ -28,7 +28,7 @@ impl PenFault {
         ensures { λ r. ⌜ r ≡ pen-report (now (self .entry)) ⌝ }
     {
         match *self {
-            PenFault::Heading(fault) => fault.report(),
+            PenFault::Heading(heading) => heading.report(),
             PenFault::Full => Report {
                 number: 30,
                 line: 0,
