@@ -3,3 +3,4 @@ pub mod Feeling
 pub mod Sheets
 pub mod Stepping
 pub mod Covering
+pub mod PartGuiding

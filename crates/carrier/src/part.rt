@@ -4,8 +4,9 @@
 ghost use mathlib.Core.Path.{_≡_};
 ghost use Prim.Native.Nat.{_≤_};
 ghost use denote.Ref.{now};
-ghost use Rattle.carrier.specs.Parts.{part-of};
+ghost use Rattle.carrier.specs.Parts.{part-of, part-guide};
 use floor::Lattice;
+use floor::Metric;
 
 #[derive(Drop)]
 pub struct Part<L> {
@@ -59,5 +60,20 @@ pub impl<L: Lattice> Lattice for Part<L> as PartLattice {
 
     fn opposite(&self, direction: u8) -> u8 {
         self.lattice.opposite(direction)
+    }
+}
+
+// A part that is the whole has the lattice's distances; in any other only the goal has one.
+pub impl<L: Metric> Metric for Part<L> as PartMetric {
+    ghost towards = { λ p goal. part-guide (L·Lattice .grid (p .lattice) .size) (L·Metric .towards (p .lattice) goal) (p .size) goal };
+
+    fn distance_to(&self, goal: u32, cell: u32) -> Option<u32> {
+        if self.size == self.lattice.size() {
+            self.lattice.distance_to(goal, cell)
+        } else if cell == goal && cell < self.size {
+            Some(0)
+        } else {
+            None
+        }
     }
 }

@@ -5,7 +5,7 @@ use crate::Lattice;
 use crate::Metric;
 
 // A lattice that knows its distances, and a goal; a goal that is no cell has none.
-#[derive(Clone, Copy, Debug, PartialEq, Eq)]
+#[derive(Debug, PartialEq, Eq, Drop)]
 pub struct Aimed<L> {
     pub lattice: L,
     pub goal: u32,

@@ -12,6 +12,8 @@ ghost use Rattle.survey.specs.Surveying.{SiteFirst, Filed, Course};
 use crate::fault::Fault;
 use crate::fault::FaultFromAlloc;
 use carrier::Carrier;
+use carrier::part::PartLattice;
+use carrier::part::PartMetric;
 use carrier::sheet::Sheet;
 use carrier::sheet::SheetCarrier;
 use drive::begin::begin;
@@ -120,12 +122,8 @@ fn file<L: Metric + Copy, M: Measure + Clone>(
         cell: 0,
     };
     let mut queue = vec![in heap; entry; 8 * size + 1]?;
-    let mut drive = begin(
-        &carrier,
-        Aimed::new(lattice, site.heading.goal),
-        &mut board,
-        &queue,
-    );
+    let guide = Aimed::new(carrier.lattice(), site.heading.goal);
+    let mut drive = begin(&carrier, guide, &mut board, &queue);
     let mut pen = match Pen::begin(&site.heading, buffer) {
         Ok(pen) => pen,
         Err(fault) => return Err(Fault::Record(fault)),
