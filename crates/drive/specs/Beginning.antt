@@ -11,6 +11,7 @@ use Rattle.std.specs.declared.result.Result.{Result}
 use Rattle.std.specs.declared.result.Result.the-variants.{Ok, Err}
 use Rattle.std.specs.Finite.{nth}
 use Rattle.model.specs.declared.Mark.the-variants as mark
+use Rattle.model.specs.declared.Phase.{Phase}
 use Rattle.model.specs.declared.Phase.the-variants as phase
 use Rattle.std.specs.Options.{mapped}
 use Rattle.model.specs.Lattice.{Lattice, Guide, lead}
@@ -38,30 +39,24 @@ abbrev pub vet-refusal : (size goal records entries : ℕ) → Option Refusal
 vet-refusal size goal records entries =
     cond (leb size goal) (Some GoalOffFloor) (cond (ltb records size) (Some ShortBoard) (cond (ltb entries (8 * size + 1)) (Some ShortQueue) None))
 
+-- a drive that has counted nothing yet
+abbrev pub uncounted : {G : Type 0} → G → Option Refusal → Phase → ℕ → Drive G
+uncounted guide void p cell = record {
+  guide = guide;
+  void = void;
+  phase = p;
+  cell = cell;
+  moves = 0;
+  length = 0;
+  found = 0;
+  searches = 0;
+  waiting = 0;
+}
+
 -- a drive that begins at a cell, or is void
 abbrev pub begun : {G : Type 0} → G → Option Refusal → (start goal : ℕ) → Drive G
-begun guide None start goal = record {
-  guide = guide;
-  void = None;
-  phase = cond (eqb start goal) phase.Arrived phase.Unseen;
-  cell = start;
-  moves = 0;
-  length = 0;
-  found = 0;
-  searches = 0;
-  waiting = 0;
-}
-begun guide (Some refusal) start goal = record {
-  guide = guide;
-  void = Some refusal;
-  phase = phase.Void;
-  cell = 0;
-  moves = 0;
-  length = 0;
-  found = 0;
-  searches = 0;
-  waiting = 0;
-}
+begun guide None start goal = uncounted guide None (cond (eqb start goal) phase.Arrived phase.Unseen) start
+begun guide (Some refusal) start goal = uncounted guide (Some refusal) phase.Void 0
 
 -- the record of a cell where a drive begins: the start is marked passable, and the pointer is the lead
 abbrev pub fresh-square : {M : Type 0} → Lattice → Guide → ℕ → ℕ → Square M

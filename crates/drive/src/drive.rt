@@ -1,7 +1,7 @@
 // What a drive keeps besides the board and the queue, which its calls are lent.
 ghost use mathlib.Core.Path.{_≡_};
 ghost use Rattle.std.specs.declared.option.Option.the-variants.{None, Some};
-ghost use Rattle.drive.specs.Beginning.{begun};
+ghost use Rattle.drive.specs.Beginning.{uncounted, begun};
 use crate::refusal::Refusal;
 use floor::Guide;
 use model::Phase;
@@ -32,28 +32,25 @@ impl<G: Guide> Drive<G> {
         } else {
             Phase::Unseen
         };
-        Drive {
-            guide,
-            void: None,
-            phase,
-            cell: start,
-            moves: 0,
-            length: 0,
-            found: 0,
-            searches: 0,
-            waiting: 0,
-        }
+        Drive::uncounted(guide, None, phase, start)
     }
 
     // A drive that is refused.
     pub(crate) fn void(guide: G, refusal: Refusal) -> Drive<G>
         ensures { λ r. ⌜ r ≡ begun guide (Some refusal) 0 0 ⌝ }
     {
+        Drive::uncounted(guide, Some(refusal), Phase::Void, 0)
+    }
+
+    // A drive that has counted nothing yet.
+    fn uncounted(guide: G, void: Option<Refusal>, phase: Phase, cell: u32) -> Drive<G>
+        ensures { λ r. ⌜ r ≡ uncounted guide void phase cell ⌝ }
+    {
         Drive {
             guide,
-            void: Some(refusal),
-            phase: Phase::Void,
-            cell: 0,
+            void,
+            phase,
+            cell,
             moves: 0,
             length: 0,
             found: 0,
