@@ -2,6 +2,8 @@
 ghost use Prim.Native.Nat.{_≤_};
 ghost use lib.ListN.{length};
 ghost use Rattle.std.specs.Vec.{made};
+ghost use Rattle.texts.specs.Site.{site-of};
+ghost use Rattle.survey.specs.Printing.{Failed, Printed};
 use crate::course::survey;
 use crate::fault::Failure;
 use filing::write::line;
@@ -10,6 +12,7 @@ use std::alloc::Global;
 
 // Writes the record of a site's drive, or the line of its fault, into the buffer: the number of bytes to print.
 pub fn print(heap: Global, text: &[u8], buffer: &mut [u8]) -> Result<usize, AllocError>
+    ensures printed { λ r. ⌜ made r (λ bytes. Printed (site-of (now (text .entry))) (now (buffer .entry)) (now (buffer .exit)) bytes) ⌝ }
     ensures within { λ r. ⌜ made r (λ bytes. bytes ≤ length (now (buffer .entry))) ⌝ }
 {
     match survey(heap, text, buffer) {
@@ -23,7 +26,8 @@ pub fn print(heap: Global, text: &[u8], buffer: &mut [u8]) -> Result<usize, Allo
 
 // Writes the line of a failure, if it fits.
 fn fail(buffer: &mut [u8], failure: &Failure) -> usize
-    ensures { λ r. ⌜ r ≤ length (now (buffer .entry)) ⌝ }
+    ensures failed { λ r. ⌜ Failed (now (failure .entry)) (now (buffer .entry)) (now (buffer .exit)) r ⌝ }
+    ensures within { λ r. ⌜ r ≤ length (now (buffer .entry)) ⌝ }
 {
     let report = failure.report;
     let fields = [failure.layer, report.number, report.line, report.column];
