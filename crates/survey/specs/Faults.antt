@@ -2,6 +2,10 @@
 use Prim.Native.Nat.{ℕ}
 use Rattle.std.specs.declared.option.Option.{Option}
 use Rattle.std.specs.declared.option.Option.the-variants.{Some, None}
+use Rattle.floor.specs.declared.extent.SizeFault.{SizeFault}
+use Rattle.floor.specs.declared.extent.SizeFault.the-variants as size
+use Rattle.texts.specs.declared.fault.HeadingFault.the-variants as heading
+use Rattle.texts.specs.Headings.{heading-field}
 use Rattle.texts.specs.declared.fault.SiteFault.{SiteFault}
 use Rattle.texts.specs.declared.fault.SiteFault.the-variants as site
 use Rattle.texts.specs.declared.fault.Report.{Report}
@@ -29,3 +33,8 @@ failure-of (fault.Site f) = Some (record { layer = site-layer f; report = site-r
 failure-of (fault.Drive e) = Some (record { layer = 3; report = report-alone (refusal-number e) })
 failure-of (fault.Record f) = Some (record { layer = 4; report = pen-report f })
 failure-of fault.NoMemory = None
+
+-- a width or height that is no floor's is refused at its field on the first line
+abbrev pub size-fault-of : SizeFault → Fault
+size-fault-of size.Width = fault.Site (site.Heading (heading.Size (heading-field 1)))
+size-fault-of size.Height = fault.Site (site.Heading (heading.Size (heading-field 2)))

@@ -11,6 +11,10 @@ ghost use Rattle.filing.specs.Written.{overwritten};
 ghost use Rattle.survey.specs.Surveying.{SiteFirst, Filed, Course};
 use crate::fault::Fault;
 use crate::fault::FaultFromAlloc;
+use crate::fault::FaultFromPen;
+use crate::fault::FaultFromRefusal;
+use crate::fault::FaultFromSite;
+use crate::fault::FaultFromSize;
 use carrier::Carrier;
 use carrier::part::PartLattice;
 use carrier::part::PartMetric;
@@ -28,7 +32,6 @@ use floor::Metric;
 use floor::aiming::Aimed;
 use floor::aiming::AimedGuide;
 use floor::aiming::AimedLattice;
-use floor::extent::SizeFault;
 use floor::kings::Kings;
 use floor::kings::KingsLattice;
 use floor::kings::KingsMetric;
@@ -48,8 +51,10 @@ use model::PhasePartialEq;
 use std::alloc::Global;
 use texts::fault::HeadingFault;
 use texts::fault::SiteFault;
-use texts::heading::HEIGHT;
-use texts::heading::WIDTH;
+use texts::heading::LatticeKind;
+use texts::heading::MEASURE;
+use texts::heading::MeasureKind;
+use texts::heading::NEIGHBOURS;
 use texts::heading::in_column;
 use texts::site::Site;
 use texts::site::read_site;
@@ -59,33 +64,21 @@ pub fn survey(heap: Global, text: &[u8], buffer: &mut [u8]) -> Result<usize, Fau
     ensures site { λ r. ⌜ SiteFirst (site-of (now (text .entry))) (now (buffer .entry)) (now (buffer .exit)) r ⌝ }
     ensures within { λ r. ⌜ made r (λ bytes. bytes ≤ length (now (buffer .entry))) ⌝ }
 {
-    let site = match read_site(text) {
-        Ok(site) => site,
-        Err(fault) => return Err(Fault::Site(fault)),
-    };
+    let site = read_site(text)?;
     let (width, height) = (site.heading.width, site.heading.height);
-    if site.heading.neighbours == 4 {
-        match Streets::new(width, height) {
-            Ok(streets) => by_measure(heap, streets, &site, buffer),
-            Err(fault) => Err(off_size(fault)),
-        }
-    } else {
-        match Kings::new(width, height) {
-            Ok(kings) => by_measure(heap, kings, &site, buffer),
-            Err(fault) => Err(off_size(fault)),
-        }
+    match site.heading.lattice() {
+        Some(LatticeKind::Streets) => by_measure(heap, Streets::new(width, height)?, &site, buffer),
+        Some(LatticeKind::Kings) => by_measure(heap, Kings::new(width, height)?, &site, buffer),
+        None => Err(unknown(NEIGHBOURS)),
     }
 }
 
-// A size that the first line's check would have refused.
-fn off_size(fault: SizeFault) -> Fault {
-    let column = match fault {
-        SizeFault::Width => WIDTH,
-        SizeFault::Height => HEIGHT,
-    };
-    Fault::Site(SiteFault::Heading(HeadingFault::Size(in_column(column))))
+// A number of the first line, at this column, that its check would have refused.
+fn unknown(column: u32) -> Fault {
+    Fault::Site(SiteFault::Heading(HeadingFault::Unknown(in_column(column))))
 }
 
+// Drives a site over a lattice, by the measure that its first line names, and files the course.
 fn by_measure<L: Metric + Copy>(
     heap: Global,
     lattice: L,
@@ -94,10 +87,10 @@ fn by_measure<L: Metric + Copy>(
 ) -> Result<usize, Fault>
     ensures { λ r. ⌜ made r (λ bytes. Filed (now (site .entry) .heading) (now (buffer .entry)) (now (buffer .exit)) bytes) ⌝ }
 {
-    if site.heading.measure == 1 {
-        file::<L, Length>(heap, lattice, site, buffer)
-    } else {
-        file::<L, Sure>(heap, lattice, site, buffer)
+    match site.heading.measured_by() {
+        Some(MeasureKind::Length) => file::<L, Length>(heap, lattice, site, buffer),
+        Some(MeasureKind::Sure) => file::<L, Sure>(heap, lattice, site, buffer),
+        None => Err(unknown(MEASURE)),
     }
 }
 
@@ -124,10 +117,7 @@ fn file<L: Metric + Copy, M: Measure + Clone>(
     let mut queue = vec![in heap; entry; 8 * size + 1]?;
     let guide = Aimed::new(carrier.lattice(), site.heading.goal);
     let mut drive = begin(&carrier, guide, &mut board, &queue);
-    let mut pen = match Pen::begin(&site.heading, buffer) {
-        Ok(pen) => pen,
-        Err(fault) => return Err(Fault::Record(fault)),
-    };
+    let mut pen = Pen::begin(&site.heading, buffer)?;
     match follow(
         &mut drive,
         &mut carrier,
@@ -162,9 +152,7 @@ fn follow<G: Guide, C: Carrier, M: Measure>(
             return Ok(());
         }
         let cell = advance(drive, carrier, board, queue)?;
-        if let Err(fault) = pen.row(buffer, cell, drive.tell().length) {
-            return Err(Fault::Record(fault));
-        }
+        pen.row(buffer, cell, drive.tell().length)?;
     }
     Err(Fault::Drive(Refusal::WrongPhase))
 }
@@ -176,13 +164,9 @@ fn advance<G: Guide, C: Carrier, M: Measure>(
     board: &mut [Square<M>],
     queue: &mut [Entry<M>],
 ) -> Result<u32, Fault> {
-    if let Err(refusal) = drive.look(carrier, board, queue) {
-        return Err(Fault::Drive(refusal));
-    }
-    match drive.go(carrier, board) {
-        Ok(cell) => Ok(cell),
-        Err(refusal) => Err(Fault::Drive(refusal)),
-    }
+    drive.look(carrier, board, queue)?;
+    let cell = drive.go(carrier, board)?;
+    Ok(cell)
 }
 
 // Closes the record of a drive that arrived.

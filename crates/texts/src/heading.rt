@@ -1,7 +1,7 @@
 // The six numbers on the first line of a site text and of a record.
 ghost use mathlib.Core.Path.{_≡_};
 ghost use Rattle.texts.specs.FirstLines.{heading-of};
-ghost use Rattle.texts.specs.Headings.{heading-check};
+ghost use Rattle.texts.specs.Headings.{heading-check, lattice-kind, measure-kind};
 ghost use Rattle.texts.specs.Lines.{line-text};
 ghost use Rattle.texts.specs.Words.{word-bytes};
 use crate::fault::HeadingFault;
@@ -39,7 +39,43 @@ pub const MEASURE: u32 = 55;
 // How many fields a first line has.
 const FIELDS: u8 = 6;
 
+// The lattice that a first line names by its number of neighbours.
+#[derive(Clone, Copy, PartialEq, Eq, Debug)]
+pub enum LatticeKind {
+    Streets,
+    Kings,
+}
+
+// The measure that a first line names by its number.
+#[derive(Clone, Copy, PartialEq, Eq, Debug)]
+pub enum MeasureKind {
+    Length,
+    Sure,
+}
+
 impl Heading {
+    // The lattice with so many neighbours.
+    pub fn lattice(&self) -> Option<LatticeKind>
+        ensures { λ r. ⌜ r ≡ lattice-kind (now (self .entry) .neighbours) ⌝ }
+    {
+        match self.neighbours {
+            4 => Some(LatticeKind::Streets),
+            8 => Some(LatticeKind::Kings),
+            _ => None,
+        }
+    }
+
+    // The measure of this number.
+    pub fn measured_by(&self) -> Option<MeasureKind>
+        ensures { λ r. ⌜ r ≡ measure-kind (now (self .entry) .measure) ⌝ }
+    {
+        match self.measure {
+            1 => Some(MeasureKind::Length),
+            2 => Some(MeasureKind::Sure),
+            _ => None,
+        }
+    }
+
     // The numbers on a first line that begins with this word.
     pub fn read(line: &Line<'_>, word: &str) -> Result<Heading, TextFault>
         ensures { λ r. ⌜ r ≡ heading-of (line-text (now (line .entry))) (word-bytes (now (word .entry))) ⌝ }
@@ -59,10 +95,10 @@ impl Heading {
     pub fn check(&self) -> Result<(), HeadingFault>
         ensures { λ r. ⌜ r ≡ heading-check (now (self .entry)) ⌝ }
     {
-        if self.neighbours != 4 && self.neighbours != 8 {
+        if self.lattice().is_none() {
             return Err(HeadingFault::Unknown(in_column(NEIGHBOURS)));
         }
-        if self.measure != 1 && self.measure != 2 {
+        if self.measured_by().is_none() {
             return Err(HeadingFault::Unknown(in_column(MEASURE)));
         }
         if self.width < 1 || self.width > MOST {

@@ -3,6 +3,7 @@ use Prim.Native.Nat.{_≤_, _+_}
 use native.Mathlib.Omega.{arith}
 use borrow.Author.Tests.{leb-true}
 use lib.ListN.{length}
+use Rattle.std.proofs.shelf.Results.{made-from-err}
 use Rattle.filing.specs.declared.pen.Pen.{Pen}
 use Rattle.texts.specs.Headings.{heading-check}
 use Rattle.filing.specs.Written.{fits}
@@ -15,10 +16,13 @@ follow-requires g c κs =
     let h = c .args .site .now .heading in
     let buffer = c .args .buffer .now in
     let first : Pen = record { at = 96; row = 0; length = 0 } in
-    let room = begun-checks (heading-check h) (fits buffer 0 131) (c .in-Ok-begin .pen) first (c .in-Ok-begin .ensures tt .answer) .1 in
-    (begun-pen (heading-check h) (fits buffer 0 131) (c .in-Ok-begin .pen) first (c .in-Ok-begin .ensures tt .answer), omega (arith, leb-true (0 + 131) (length buffer) room))
+    let room = begun-checks (heading-check h) (fits buffer 0 131) (c .in-Continue-pen .pen) first (c .in-Continue-pen .ensures tt .answer) .1 in
+    (begun-pen (heading-check h) (fits buffer 0 131) (c .in-Continue-pen .pen) first (c .in-Continue-pen .ensures tt .answer), omega (arith, leb-true (0 + 131) (length buffer) room))
 
 pub returns-in-Ok-follow : need.returns-in-Ok-follow
 returns-in-Ok-follow g c =
     closed-course (c .args .site .now .heading) (c .args .buffer .now) (c .begin .last .buffer) (c .follow .last .buffer) (c .close .last .buffer) (c .follow .last .pen) (c .tell .result .found) (c .close .result)
-    (c .in-Ok-begin .ensures tt .bytes) (omega arith) (c .in-Ok-follow .ensures tt) (c .close .ensures)
+    (c .in-Continue-pen .ensures tt .bytes) (omega arith) (c .in-Ok-follow .ensures tt) (c .close .ensures)
+
+pub returns-in-Break-pen : need.returns-in-Break-pen
+returns-in-Break-pen g c = made-from-err (c .from-residual-in-Break-pen .result) _ (c .from-residual-in-Break-pen .ensures .0)

@@ -1,6 +1,7 @@
 use mathlib.Core.Path.{refl}
 use mathlib.Core.List.{[], _∷_, _++_}
 use native.Mathlib.Omega.{arith}
+use Rattle.std.proofs.shelf.Results.{made-from-err}
 use Rattle.filing.specs.declared.pen.Row.{Row}
 use Rattle.filing.proofs.Filed.{penned-none, penned-more}
 use Rattle.survey.proofs.course.follow.Needs as need
@@ -15,6 +16,9 @@ loop-again g c =
       omega arith,
       record {
         rows = rows ++ row ∷ [];
-        penned = penned-more rows (c .args .buffer .now) (c .loop .pen) (c .loop .buffer) row (rows ++ row ∷ []) (c .row .last .self) (c .row .last .buffer) (c .loop .inv .1 .penned) (c .pre .1) refl (c .in-rest .ensures tt .pen) (c .in-rest .ensures tt .bytes);
+        penned = penned-more rows (c .args .buffer .now) (c .loop .pen) (c .loop .buffer) row (rows ++ row ∷ []) (c .row .last .self) (c .row .last .buffer) (c .loop .inv .1 .penned) (c .pre .1) refl (c .in-Continue-row .ensures tt .pen) (c .in-Continue-row .ensures tt .bytes);
       },
     )
+
+pub returns-in-Break-row : need.returns-in-Break-row
+returns-in-Break-row g c = made-from-err (c .from-residual-in-Break-row .result) _ (c .from-residual-in-Break-row .ensures .0)
