@@ -6,6 +6,9 @@ use Prim.Native.Nat.{ℕ, _+_, _-_, _/_, _%_, _^_, min}
 use lib.Bits.{bitAnd}
 use lib.Count.{ones}
 use lib.Dec.{eqb}
+use lib.ListN.{length}
+use Rattle.std.specs.declared.option.Option.{Option}
+use Rattle.std.specs.declared.option.Option.the-variants.{Some}
 use Rattle.std.specs.Options.{mapped}
 use Rattle.std.specs.Finite.{nth}
 use Rattle.model.specs.declared.Mark.{Mark}
@@ -13,12 +16,16 @@ use Rattle.model.specs.declared.Mark.the-variants as mark
 use Rattle.model.specs.declared.Phase.the-variants as phase
 use Rattle.model.specs.Lattice.{Lattice, is, test-at, first-direction, rock-bits}
 use Rattle.model.specs.Plain.{is-rock}
+use Rattle.model.specs.Ground.{Ground}
 use Rattle.model.specs.Scale.{Scale}
 use Rattle.measure.specs.declared.queue.Entry.{Entry}
 use Rattle.measure.specs.Queue.{Added}
 use Rattle.drive.specs.declared.board.Square.{Square}
 use Rattle.drive.specs.declared.board.Stage.the-variants as stage
 use Rattle.drive.specs.declared.drive.Drive.{Drive}
+use Rattle.drive.specs.declared.call.Call.the-variants.{Look}
+use Rattle.drive.specs.declared.refusal.Refusal.{Refusal}
+use Rattle.drive.specs.Calls.{call-refusal}
 use Rattle.drive.specs.Going.{counted}
 use Rattle.drive.specs.Board.{changed, mark-at, pointer-at, with-mark, with-pointer, with-stage}
 
@@ -120,6 +127,10 @@ pub record GoesOn {G M : Type 0} (scale : Scale) (value : M → scale .Value) (d
   pub searching :
       eqb (pointer-at board (d .cell)) 0 ≡ true →
       (d′ ≡ made-searching d) × Begins scale value (d .cell) (next-search (d .searches)) board board′ queue queue′
+
+-- the first refusal of a look, by the board, the queue, the guide's lattice and the carrier's ground
+abbrev pub look-refusal : {G M : Type 0} → Drive G → List (Square M) → List (Entry M) → Lattice → Ground → Option Refusal
+look-refusal d board queue l ground = call-refusal d Look (record { records = length board; entries = Some (length queue); at = ground .at }) (l .size)
 
 -- what a look leaves, by the felt byte: the count of new rock, each record as seen, and then the drive goes on
 pub record Looked {G M : Type 0} (scale : Scale) (value : M → scale .Value) (l : Lattice) (felt : ℕ) (d d′ : Drive G) (board board′ : List (Square M)) (queue queue′ : List (Entry M)) (count : ℕ) : Type 0 where

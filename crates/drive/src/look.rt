@@ -10,9 +10,7 @@ ghost use Rattle.model.specs.Ground.{feels};
 ghost use Rattle.model.specs.Lattice.{is};
 ghost use Rattle.model.specs.Plain.{is-rock};
 ghost use Rattle.drive.specs.Board.{mark-at, pointer-at};
-ghost use Rattle.drive.specs.declared.call.Call.the-variants.{Look};
-ghost use Rattle.drive.specs.Calls.{call-refusal};
-ghost use Rattle.drive.specs.Looking.{direction-bit, felt-mark, Remade, marked-by, cut-by, cut-to, new-bits, next-search, made-searching, Begins, GoesOn, Looked};
+ghost use Rattle.drive.specs.Looking.{direction-bit, felt-mark, Remade, marked-by, cut-by, cut-to, new-bits, next-search, made-searching, Begins, GoesOn, look-refusal, Looked};
 use crate::board::Square;
 use crate::board::Stage;
 use crate::board::mark;
@@ -44,8 +42,8 @@ impl<G: Guide> Drive<G> {
         board: &mut [Square<M>],
         queue: &mut [Entry<M>],
     ) -> Result<(u8, u32), Refusal>
-        ensures refused { λ r. ⌜ refused r (λ e. (call-refusal (now (self .entry)) Look (record { records = length (now (board .entry)); entries = Some (length (now (queue .entry))); at = C·Carrier .ground (now (carrier .entry)) .at }) (G·Lattice .grid (now (self .entry) .guide) .size) ≡ Some e) × (now (self .exit) ≡ now (self .entry)) × (now (board .exit) ≡ now (board .entry)) × (now (queue .exit) ≡ now (queue .entry))) ⌝ }
-        ensures accepted { λ r. ⌜ made r (λ a. (call-refusal (now (self .entry)) Look (record { records = length (now (board .entry)); entries = Some (length (now (queue .entry))); at = C·Carrier .ground (now (carrier .entry)) .at }) (G·Lattice .grid (now (self .entry) .guide) .size) ≡ None) × (a .0 ≡ feels (Floor·Lattice .grid (C·Carrier .floor (now (carrier .entry)))) (C·Carrier .ground (now (carrier .entry)))) × Looked (M·Measure .scale) (M·Measure .value) (G·Lattice .grid (now (self .entry) .guide)) (a .0) (now (self .entry)) (now (self .exit)) (now (board .entry)) (now (board .exit)) (now (queue .entry)) (now (queue .exit)) (a .1)) ⌝ }
+        ensures refused { λ r. ⌜ refused r (λ e. (look-refusal (now (self .entry)) (now (board .entry)) (now (queue .entry)) (G·Lattice .grid (now (self .entry) .guide)) (C·Carrier .ground (now (carrier .entry))) ≡ Some e) × (now (self .exit) ≡ now (self .entry)) × (now (board .exit) ≡ now (board .entry)) × (now (queue .exit) ≡ now (queue .entry))) ⌝ }
+        ensures accepted { λ r. ⌜ made r (λ a. (look-refusal (now (self .entry)) (now (board .entry)) (now (queue .entry)) (G·Lattice .grid (now (self .entry) .guide)) (C·Carrier .ground (now (carrier .entry))) ≡ None) × (a .0 ≡ feels (Floor·Lattice .grid (C·Carrier .floor (now (carrier .entry)))) (C·Carrier .ground (now (carrier .entry)))) × Looked (M·Measure .scale) (M·Measure .value) (G·Lattice .grid (now (self .entry) .guide)) (a .0) (now (self .entry)) (now (self .exit)) (now (board .entry)) (now (board .exit)) (now (queue .entry)) (now (queue .exit)) (a .1)) ⌝ }
     {
         let lent = Lent {
             records: board.len(),
