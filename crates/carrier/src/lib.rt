@@ -1,4 +1,6 @@
 // What drives over a lattice and feels the rock beside it.
+#![tactic(auto)]
+
 ghost use Rattle.std.specs.Prelude.{◌≡◌, ℕ, ◌<◌, true, false};
 ghost use Rattle.model.specs.Ground.{Ground, feels, lands, can_step};
 

@@ -1,4 +1,6 @@
 // The drive: a carrier's way to the goal over a floor that it feels cell by cell.
+#![tactic(auto)]
+
 pub mod begin;
 pub mod call;
 pub mod drive;

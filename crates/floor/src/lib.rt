@@ -1,4 +1,6 @@
 // Lattices of numbered cells, and guides to a goal over them.
+#![tactic(auto)]
+
 ghost use Rattle.std.specs.Prelude.{◌≡◌, ℕ};
 ghost use Rattle.model.specs.Lattice.{Lattice as Grid, Lawful, Guide as Aim, Guiding, lead, same_distance, plus};
 

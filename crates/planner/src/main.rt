@@ -1,4 +1,6 @@
 // Reads a site text from standard input, and prints the record of its drive, or one line that says what is wrong.
+#![tactic(auto)]
+
 ghost use Rattle.std.specs.Prelude.{◌≤◌, length, IfOk};
 
 use std::io::{Read, Write};

@@ -1,4 +1,6 @@
 // The search for the best way back to the tree of pointers, one step at a time.
+#![tactic(auto)]
+
 mod backs;
 pub mod begin;
 mod frontier;

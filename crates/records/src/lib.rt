@@ -1,4 +1,6 @@
 // Filed records: reading them line by line, and writing them again.
+#![tactic(auto)]
+
 pub mod fault;
 pub mod line;
 pub mod reader;

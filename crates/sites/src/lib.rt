@@ -1,3 +1,5 @@
 // Site texts: the reader, and what can be wrong with one.
+#![tactic(auto)]
+
 pub mod fault;
 pub mod site;

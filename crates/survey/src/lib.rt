@@ -1,4 +1,6 @@
 // From the bytes of a site text to the bytes of a filed record.
+#![tactic(auto)]
+
 pub mod course;
 mod driving;
 pub mod fault;
