@@ -1,6 +1,6 @@
 -- Words as they are compared, and the ways of the check of a line against its word.
 use Rattle.std.proofs.Common.{◌≡◌, ℕ, ◌+◌, ◌*◌, ◌<◌, ◌≤◌, min, Bool, true, false, cond, ◌&&◌, eqb, List, length, take, Ok, Err, Decides, Result, sym, refl, ap, ◌∙◌, arith}
-use Rattle.std.specs.Cmp.Lexicographic.{Matches}
+use Rattle.std.specs.Cmp.Lexicographic.{pointwise}
 use Rattle.std.specs.Str.{bytes_eq}
 use Rattle.std.proofs.lemmas.Slice.Eq.{slice_eq-Decides, bytes_eq-Decides}
 use Rattle.std.proofs.lemmas.Bool.{lt-ltb, le-ltb, eqb-true}
@@ -21,7 +21,7 @@ another w v h = by (bytes_eq w v) (bytes_eq-Decides w v)
     by true d = absurd (h (d.0 refl))
     by false d = refl
 
-compared : (xs ys : List ℕ) (r : Bool) → Matches (λ (a b : ℕ) (t : Bool). Decides t (a ≡ b)) xs ys r → bytes_eq ys xs ≡ r
+compared : (xs ys : List ℕ) (r : Bool) → r ≡ pointwise eqb xs ys → bytes_eq ys xs ≡ r
 compared xs ys r m = sym (same_from_decides r (bytes_eq ys xs) (Decides-like r sym sym (slice_eq-Decides Decides-eqb xs ys r m)) (bytes_eq-Decides ys xs))
 
 module _ (l : TextLine) (word : List ℕ) (fields : ℕ) where
@@ -29,11 +29,11 @@ module _ (l : TextLine) (word : List ℕ) (fields : ℕ) where
   unfolding word_check
   too_short h = rw (lt-ltb (length l.bytes) (length word) h) refl
 
-  pub other_word : length word ≤ length l.bytes → Matches (λ (a b : ℕ) (t : Bool). Decides t (a ≡ b)) word (take (length word) l.bytes) false → Err (Word (in_line l 1)) ≡ word_check l word fields
+  pub other_word : length word ≤ length l.bytes → false ≡ pointwise eqb word (take (length word) l.bytes) → Err (Word (in_line l 1)) ≡ word_check l word fields
   unfolding word_check
   other_word h m = rw (le-ltb (length l.bytes) (length word) h, compared word (take (length word) l.bytes) false m) refl
 
-  pub same_word : length word ≤ length l.bytes → Matches (λ (a b : ℕ) (t : Bool). Decides t (a ≡ b)) word (take (length word) l.bytes) true → length_check l (length word + 10 * fields) ≡ word_check l word fields
+  pub same_word : length word ≤ length l.bytes → true ≡ pointwise eqb word (take (length word) l.bytes) → length_check l (length word + 10 * fields) ≡ word_check l word fields
   unfolding word_check
   same_word h m = rw (le-ltb (length l.bytes) (length word) h, compared word (take (length word) l.bytes) true m) refl
 

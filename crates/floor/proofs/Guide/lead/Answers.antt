@@ -4,12 +4,12 @@ use Rattle.floor.specs.Leads.{next_none, first_here, none_of_all, nearer, nearer
 use Rattle.floor.proofs.Guide.lead.Goals as goal
 
 -- no neighbour in this direction
-pub loop-direction-preserved-in-default : goal.loop-direction-preserved-in-default
-loop-direction-preserved-in-default g c =
+pub loop-direction-preserved-in_default : goal.loop-direction-preserved-in_default
+loop-direction-preserved-in_default g c =
     let l = g.Self.Lattice.grid c.args.self.now in
     let a = g.Self.Guide.aim c.args.self.now in
     let d = c.loop-direction.direction in
-    next_none d (nearer l a c.args.cell) (omega arith) c.loop-direction.invariant (nearer_none l a c.args.cell d c.in-default.ensures)
+    next_none d (nearer l a c.args.cell) (omega arith) c.loop-direction.invariant (nearer_none l a c.args.cell d c.in_default.ensures)
 
 -- a neighbour that is not nearer by the cost
 pub loop-direction-preserved : goal.loop-direction-preserved
@@ -21,9 +21,9 @@ loop-direction-preserved g c =
     let off : nearer l a c.args.cell d ≡ false = cc in
     next_none d (nearer l a c.args.cell) (omega arith) c.loop-direction.invariant off
 
-pub returns-then-is-sum : goal.returns-then-is-sum
+pub returns-then-is_sum : goal.returns-then-is_sum
 unfolding lead
-returns-then-is-sum g c =
+returns-then-is_sum g c =
     let l = g.Self.Lattice.grid c.args.self.now in
     let a = g.Self.Guide.aim c.args.self.now in
     let d = c.loop-direction.direction in

@@ -10,12 +10,12 @@ returns-then-columns-ne-COLUMNS c =
     let same = not_ten_columns f (λ e. omega arith) in
     record { value = same; law = reads_as f _ same }
 
-pub returns-in-err-number : goal.returns-in-err-number
-returns-in-err-number c =
+pub returns-in_err-number : goal.returns-in_err-number
+returns-in_err-number c =
     let f = c.args.columns.now in
     let k = c.blanks.result in
     let e = take_rest f k ∙ c.blanks.ensures.behind in
-    let same = c.from-residual.ensures ∙ ten_columns f _ _ (omega arith) e c.in-err-number.ensures in
+    let same = c.from_residual.ensures ∙ ten_columns f _ _ (omega arith) e c.in_err-number.ensures in
     record { value = same; law = reads_as f _ same }
 
 pub returns : goal.returns
@@ -23,6 +23,6 @@ returns c =
     let f = c.args.columns.now in
     let k = c.blanks.result in
     let e = take_rest f k ∙ c.blanks.ensures.behind in
-    let fits = narrowed c.try-from.result c.in-ok-number.number c.try-from.ensures in
-    let same = c.ok.ensures.value ∙ fits ∙ ten_columns f _ _ (omega arith) e c.in-ok-number.ensures in
+    let fits = narrowed c.try_from.result c.in_ok-number.number c.try_from.ensures in
+    let same = c.ok.ensures.value ∙ fits ∙ ten_columns f _ _ (omega arith) e c.in_ok-number.ensures in
     record { value = same; law = reads_as f _ same }

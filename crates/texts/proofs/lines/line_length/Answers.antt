@@ -11,8 +11,8 @@ at-end t i l e = at_drop_more (λ xs. length (line_of xs)) t i 0 l ∙ rw (eq-eq
 not_yet : (t : List ℕ) (i : ℕ) → i < length t → (get_or t i 0 ≡ 10 → ⊥) → length (line_of (drop i t)) ≡ 1 + length (line_of (drop (i + 1) t))
 not_yet t i l e = at_drop_more (λ xs. length (line_of xs)) t i 0 l ∙ rw (ne_eqb (get_or t i 0) 10 e) (omega arith)
 
-pub returns-then-byte-eq-END-OF-LINE : goal.returns-then-byte-eq-END-OF-LINE
-returns-then-byte-eq-END-OF-LINE c =
+pub returns-then-byte-eq-END_OF_LINE : goal.returns-then-byte-eq-END_OF_LINE
+returns-then-byte-eq-END_OF_LINE c =
     omega (arith, c.loop-i.invariant, at-end c.args.text.now c.loop-i.i (omega arith) (omega arith))
 
 pub loop-i-preserved : goal.loop-i-preserved

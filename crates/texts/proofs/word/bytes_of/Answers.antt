@@ -2,10 +2,10 @@ use Rattle.std.proofs.Common.{codes, refl, arith}
 use Rattle.texts.proofs.Words.{another}
 use Rattle.texts.proofs.word.bytes_of.Goals as goal
 
-pub returns-in-default : goal.returns-in-default
-returns-in-default c =
+pub returns-in_default : goal.returns-in_default
+returns-in_default c =
     let w = c.args.word.now in
-    let no = c.in-default in
+    let no = c.in_default in
     record {
       bytes = rw (
         another w (codes "SITE") no.not-SITE,

@@ -8,22 +8,22 @@ use Rattle.texts.proofs.lines.Line.check_word.Goals as goal
 pub returns-then-self-word : goal.returns-then-self-word
 returns-then-self-word c =
     let l = line_text c.args.self.now in
-    let word = c.bytes-of-word.result.now in
+    let word = c.bytes_of-word.result.now in
     let k = c.args.fields in
-    ap (λ p. Err (Length p)) c.place.ensures ∙ too_short l word k (omega arith) ∙ ap (λ (w : List ℕ). word_check l w k) c.bytes-of-word.ensures.bytes
+    ap (λ p. Err (Length p)) c.place.ensures ∙ too_short l word k (omega arith) ∙ ap (λ (w : List ℕ). word_check l w k) c.bytes_of-word.ensures.bytes
 
-pub returns-then-not-starts-with : goal.returns-then-not-starts-with
-returns-then-not-starts-with c =
+pub returns-then-not-starts_with : goal.returns-then-not-starts_with
+returns-then-not-starts_with c =
     let l = line_text c.args.self.now in
-    let word = c.bytes-of-word.result.now in
+    let word = c.bytes_of-word.result.now in
     let k = c.args.fields in
-    ap (λ p. Err (Word p)) (at_column l _ 1 c.place-then-not-starts-with.ensures (omega arith)) ∙ other_word l word k (omega arith) c.if-not-starts-with.ensures.value
-    ∙ ap (λ (w : List ℕ). word_check l w k) c.bytes-of-word.ensures.bytes
+    ap (λ p. Err (Word p)) (at_column l _ 1 c.place-then-not-starts_with.ensures (omega arith)) ∙ other_word l word k (omega arith) c.if-not-starts_with.ensures.value
+    ∙ ap (λ (w : List ℕ). word_check l w k) c.bytes_of-word.ensures.bytes
 
 pub returns : goal.returns
 returns c =
     let l = line_text c.args.self.now in
-    let word = c.bytes-of-word.result.now in
+    let word = c.bytes_of-word.result.now in
     let k = c.args.fields in
-    c.check-length.ensures ∙ ap (λ n. length_check l (length word + 10 * n)) c.from.ensures ∙ same_word l word k (omega arith) c.if-not-starts-with.ensures.value
-    ∙ ap (λ (w : List ℕ). word_check l w k) c.bytes-of-word.ensures.bytes
+    c.check_length.ensures ∙ ap (λ n. length_check l (length word + 10 * n)) c.from.ensures ∙ same_word l word k (omega arith) c.if-not-starts_with.ensures.value
+    ∙ ap (λ (w : List ℕ). word_check l w k) c.bytes_of-word.ensures.bytes
