@@ -3,7 +3,7 @@ use Rattle.board.specs.declared.square.Square.{Square}
 use Rattle.board.specs.Around.{direction_bit, Remade, cut_by}
 use Rattle.board.proofs.Cutting.{strike_begin, strike_clear, strike_none, strike_more}
 use Rattle.board.proofs.around.cut_around.Goals as goal
-use Rattle.board.proofs.around.cut_around.Goals.{then-has-bit+in-Some, then-has-bit+in-default, else-has-bit}
+use Rattle.board.proofs.around.cut_around.Goals.{then-has_bit+in-Some, then-has_bit+in_default, else-has_bit}
 
 pub loop-bit-init : goal.loop-bit-init
 loop-bit-init g c = strike_begin (g.L.Lattice.grid c.args.lattice.now) (g.met.L.Lattice.lawful c.args.lattice.now) c.args.here c.args.rocks c.args.board.now
@@ -18,17 +18,17 @@ loop-bit-preserved g c =
     let old = c.loop-bit.board in
     let first = c.args.board.now in
     let By : ℕ → List (Square g.row.M.Denot) → Type 0 = λ n ys. Remade (cut_by l here rocks n) first ys in
-    elim c.if-has-bit.branch [
-      | then-has-bit+in-Some w ↦
+    elim c.if-has_bit.branch [
+      | then-has_bit+in-Some w ↦
           let e : l.beside here (suc k) ≡ Some w.in-Some.rock = subst (λ n. l.beside here n ≡ Some w.in-Some.rock) (add-one k) (sym w.in-Some.ensures) in
-          let set : direction_bit rocks (suc k) ≡ true = subst (λ n. direction_bit rocks n ≡ true) (add-one k) (sym w.if-has-bit.ensures) in
+          let set : direction_bit rocks (suc k) ≡ true = subst (λ n. direction_bit rocks n ≡ true) (add-one k) (sym w.if-has_bit.ensures) in
           subst (By (k + 1)) (sym w.board-is)
-          (subst (λ n. By n w.cut_towards.new.board) (sym (add-one k)) (strike_more l lawful here rocks k w.in-Some.rock first old w.cut_towards.new.board e set c.loop-bit.invariant w.cut_towards.ensures))
-      | then-has-bit+in-default w ↦
-          let e : l.beside here (suc k) ≡ None = subst (λ n. l.beside here n ≡ None) (add-one k) (sym w.in-default.ensures) in
+          (subst (λ n. By n w.cut_to.new.board) (sym (add-one k)) (strike_more l lawful here rocks k w.in-Some.rock first old w.cut_to.new.board e set c.loop-bit.invariant w.cut_to.ensures))
+      | then-has_bit+in_default w ↦
+          let e : l.beside here (suc k) ≡ None = subst (λ n. l.beside here n ≡ None) (add-one k) (sym w.in_default.ensures) in
           subst (By (k + 1)) (sym w.board-is) (subst (λ n. By n old) (sym (add-one k)) (strike_none l lawful here rocks k first old e c.loop-bit.invariant))
-      | else-has-bit w ↦
-          let clear : direction_bit rocks (suc k) ≡ false = subst (λ n. direction_bit rocks n ≡ false) (add-one k) (sym w.if-has-bit.ensures) in
+      | else-has_bit w ↦
+          let clear : direction_bit rocks (suc k) ≡ false = subst (λ n. direction_bit rocks n ≡ false) (add-one k) (sym w.if-has_bit.ensures) in
           subst (By (k + 1)) (sym w.board-is) (subst (λ n. By n old) (sym (add-one k)) (strike_clear l lawful here rocks k first old clear c.loop-bit.invariant))
     ]
 

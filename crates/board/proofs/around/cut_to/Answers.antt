@@ -4,7 +4,7 @@ use Rattle.board.specs.Board.{changed, with_pointer}
 use Rattle.board.specs.Around.{Remade}
 use Rattle.board.proofs.Cutting.{cut_upto, cut_begin, cut_none, cut_hit, cut_miss, cut_end}
 use Rattle.board.proofs.around.cut_to.Goals as goal
-use Rattle.board.proofs.around.cut_to.Goals.{in-Some+then-points-to, in-Some+else-points-to, in-default}
+use Rattle.board.proofs.around.cut_to.Goals.{in-Some+then-points_to, in-Some+else-points_to, in_default}
 
 pub loop-bit-init : goal.loop-bit-init
 loop-bit-init g c = cut_begin (g.L.Lattice.grid c.args.lattice.now) (g.met.L.Lattice.lawful c.args.lattice.now) c.args.rock c.args.board.now
@@ -19,16 +19,16 @@ loop-bit-preserved g c =
     let first = c.args.board.now in
     let By : ℕ → List (Square g.row.M.Denot) → Type 0 = λ n ys. Remade (cut_upto l rock n) first ys in
     elim c.match-beside.branch [
-      | in-Some+then-points-to w ↦
+      | in-Some+then-points_to w ↦
           let e : l.beside rock (suc k) ≡ Some w.in-Some.cell = subst (λ n. l.beside rock n ≡ Some w.in-Some.cell) (add-one k) (sym w.in-Some.ensures) in
           subst (By (k + 1)) (sym (w.board-is ∙ w.set_pointer.ensures))
-          (subst (λ n. By n (changed (with_pointer 0) old w.in-Some.cell)) (sym (add-one k)) (cut_hit l lawful rock k w.in-Some.cell first old e c.loop-bit.invariant (sym w.if-points-to.ensures)))
-      | in-Some+else-points-to w ↦
+          (subst (λ n. By n (changed (with_pointer 0) old w.in-Some.cell)) (sym (add-one k)) (cut_hit l lawful rock k w.in-Some.cell first old e c.loop-bit.invariant (sym w.if-points_to.ensures)))
+      | in-Some+else-points_to w ↦
           let e : l.beside rock (suc k) ≡ Some w.in-Some.cell = subst (λ n. l.beside rock n ≡ Some w.in-Some.cell) (add-one k) (sym w.in-Some.ensures) in
           subst (By (k + 1)) (sym w.board-is)
-          (subst (λ n. By n old) (sym (add-one k)) (cut_miss l lawful rock k w.in-Some.cell first old e c.loop-bit.invariant (sym w.if-points-to.ensures)))
-      | in-default w ↦
-          let e : l.beside rock (suc k) ≡ None = subst (λ n. l.beside rock n ≡ None) (add-one k) (sym w.in-default.ensures) in
+          (subst (λ n. By n old) (sym (add-one k)) (cut_miss l lawful rock k w.in-Some.cell first old e c.loop-bit.invariant (sym w.if-points_to.ensures)))
+      | in_default w ↦
+          let e : l.beside rock (suc k) ≡ None = subst (λ n. l.beside rock n ≡ None) (add-one k) (sym w.in_default.ensures) in
           subst (By (k + 1)) (sym w.board-is) (subst (λ n. By n old) (sym (add-one k)) (cut_none l lawful rock k first old e c.loop-bit.invariant))
     ]
 

@@ -4,7 +4,7 @@ use Rattle.board.specs.Board.{changed, with_mark}
 use Rattle.board.specs.Around.{direction_bit, felt_mark_of, Remade, marked_by}
 use Rattle.board.proofs.Marking.{marks_begin, marks_none, marks_more}
 use Rattle.board.proofs.around.mark_around.Goals as goal
-use Rattle.board.proofs.around.mark_around.Goals.{in-Some, in-default}
+use Rattle.board.proofs.around.mark_around.Goals.{in-Some, in_default}
 
 pub loop-bit-init : goal.loop-bit-init
 loop-bit-init g c = marks_begin (g.L.Lattice.grid c.args.lattice.now) (g.met.L.Lattice.lawful c.args.lattice.now) c.args.here c.args.felt c.args.board.now
@@ -24,11 +24,11 @@ loop-bit-preserved g c =
       | in-Some w ↦
           let e : l.beside here (suc k) ≡ Some w.in-Some.next = subst (λ n. l.beside here n ≡ Some w.in-Some.next) (add-one k) (sym w.in-Some.ensures) in
           let written : w.set_mark.new.board ≡ changed (with_mark (felt_mark_of (direction_bit felt (suc k)))) old w.in-Some.next =
-          w.set_mark.ensures ∙ ap (λ m. changed (with_mark m) old w.in-Some.next) (w.felt_mark_of.ensures ∙ ap (λ n. felt_mark_of (direction_bit felt n)) (add-one k)) in
+          w.set_mark.ensures ∙ ap (λ m. changed (with_mark m) old w.in-Some.next) (w.felt_mark.ensures ∙ ap (λ n. felt_mark_of (direction_bit felt n)) (add-one k)) in
           subst So (sym (w.board-is ∙ written))
           (subst (λ n. By n (changed (with_mark (felt_mark_of (direction_bit felt (suc k)))) old w.in-Some.next)) (sym (add-one k)) (marks_more l lawful here felt k w.in-Some.next first old e c.loop-bit.invariant))
-      | in-default w ↦
-          let e : l.beside here (suc k) ≡ None = subst (λ n. l.beside here n ≡ None) (add-one k) (sym w.in-default.ensures) in
+      | in_default w ↦
+          let e : l.beside here (suc k) ≡ None = subst (λ n. l.beside here n ≡ None) (add-one k) (sym w.in_default.ensures) in
           subst So (sym w.board-is) (subst (λ n. By n old) (sym (add-one k)) (marks_none l lawful here felt k first old e c.loop-bit.invariant))
     ]
 

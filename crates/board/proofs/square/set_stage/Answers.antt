@@ -6,5 +6,5 @@ use Rattle.board.proofs.square.set_stage.Goals as goal
 pub returns-in-Some : goal.returns-in-Some
 returns-in-Some g c = c.put.ensures ∙ ap (set c.args.board.now c.args.cell) c.staged.ensures ∙ changed_some (with_stage c.args.search c.args.stage) c.args.board.now c.args.cell c.in-Some.square (sym c.in-Some.ensures)
 
-pub returns-in-default : goal.returns-in-default
-returns-in-default g c = changed_none (with_stage c.args.search c.args.stage) c.args.board.now c.args.cell (sym c.in-default.ensures)
+pub returns-in_default : goal.returns-in_default
+returns-in_default g c = changed_none (with_stage c.args.search c.args.stage) c.args.board.now c.args.cell (sym c.in_default.ensures)

@@ -19,15 +19,15 @@ none = record { cell = 0; length = 0 }
 pub loop-row-init : goal.loop-row-init
 loop-row-init c =
     let h = c.args.heading.now in
-    penned_none c.in-ok-pen.pen c.begin.new.buffer (begun_pen (heading_check h) (fits c.args.buffer.now 0 131) c.in-ok-pen.pen (pen_behind []) c.in-ok-pen.ensures.answer)
+    penned_none c.in_ok-pen.pen c.begin.new.buffer (begun_pen (heading_check h) (fits c.args.buffer.now 0 131) c.in_ok-pen.pen (pen_behind []) c.in_ok-pen.ensures.answer)
 
 pub loop-row-preserved : goal.loop-row-preserved
 loop-row-preserved c =
     let rows = c.args.rows.now in
     let i = c.loop-row.row-index in
-    let room = room_for_rows (length rows) (length c.args.buffer.now) c.if-not-rows-fit.ensures in
+    let room = room_for_rows (length rows) (length c.args.buffer.now) c.if-not-rows_fit.ensures in
     penned_more (take i rows) c.begin.new.buffer c.loop-row.pen c.loop-row.buffer (get_or rows i none) (take (i + 1) rows) c.row.new.self c.row.new.buffer
-    c.loop-row.invariant (omega arith) (take_more rows i none (omega arith)) c.in-default.ensures.pen c.in-default.ensures.bytes
+    c.loop-row.invariant (omega arith) (take_more rows i none (omega arith)) c.in_default.ensures.pen c.in_default.ensures.bytes
 
 pub returns-in-Ok : goal.returns-in-Ok
 returns-in-Ok c =
@@ -42,8 +42,8 @@ returns-in-Ok c =
     record {
       answer =
           accepted (heading_check h) (rows_fit (length rows) (length old)) c.in-Ok.bytes (131 + 31 * length rows)
-          (sym c.check.ensures ∙ c.in-ok-check.was) (sym c.if-not-rows-fit.ensures) (omega arith);
+          (sym c.check.ensures ∙ c.in_ok-check.was) (sym c.if-not-rows_fit.ensures) (omega arith);
       bytes =
-          penned_closed (take i rows) c.begin.new.buffer c.loop-row.pen c.loop-row.buffer h old c.args.ending c.args.rock c.close.new.buffer c.loop-row.invariant c.in-ok-pen.ensures.bytes c.in-Ok.ensures.bytes
+          penned_closed (take i rows) c.begin.new.buffer c.loop-row.pen c.loop-row.buffer h old c.args.ending c.args.rock c.close.new.buffer c.loop-row.invariant c.in_ok-pen.ensures.bytes c.in-Ok.ensures.bytes
           ∙ ap (λ (rs : List Row). overwritten old 0 (record_text h rs c.args.ending c.args.rock)) all;
     }

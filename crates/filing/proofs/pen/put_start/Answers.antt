@@ -10,6 +10,6 @@ returns c =
     record {
       place = omega arith;
       bytes =
-          overwritten_more c.args.buffer.now c.put-path-end.new.buffer c.put-row.new.buffer 0 c.put-path-end.result (path_line h) (row_line 0 h.start 0)
-          c.put-path-end.ensures.bytes c.put-row.ensures.bytes (omega arith) (omega arith);
+          overwritten_more c.args.buffer.now c.put_path-end.new.buffer c.put_row.new.buffer 0 c.put_path-end.result (path_line h) (row_line 0 h.start 0)
+          c.put_path-end.ensures.bytes c.put_row.ensures.bytes (omega arith) (omega arith);
     }

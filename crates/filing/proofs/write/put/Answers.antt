@@ -13,6 +13,6 @@ returns c =
     record {
       place = refl;
       bytes =
-          put_mid-paste at (at + length new - at) old c.copy-from-slice.new.self new (length new) c.copy-from-slice.ensures.after (omega arith) refl
+          put_mid-paste at (at + length new - at) old c.copy_from_slice.new.self new (length new) c.copy_from_slice.ensures.after (omega arith) refl
           ∙ paste_all old at new (length new) refl;
     }

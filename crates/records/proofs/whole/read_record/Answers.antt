@@ -9,38 +9,38 @@ use Rattle.records.proofs.Below.{reads_opened, reads_row, reads_end, reads_wrong
 use Rattle.records.proofs.Laid.{record_law}
 use Rattle.records.proofs.whole.read_record.Goals as goal
 
-pub returns-in-err-reader : goal.returns-in-err-reader
-returns-in-err-reader c =
+pub returns-in_err-reader : goal.returns-in_err-reader
+returns-in_err-reader c =
     let t = c.args.text.now in
     record {
-      value = handed_on _ _ c.from-residual.ensures.1 ∙ ap (result_map_both summary (λ e. e)) (sym (unopened t _ c.in-err-reader.ensures));
+      value = handed_on _ _ c.from_residual.ensures.1 ∙ ap (result_map_both summary (λ e. e)) (sym (unopened t _ c.in_err-reader.ensures));
       law = record_law t;
     }
 
 pub loop-closing-init : goal.loop-closing-init
-loop-closing-init c = reads_opened c.args.text.now _ c.in-ok-reader.ensures
+loop-closing-init c = reads_opened c.args.text.now _ c.in_ok-reader.ensures
 
-pub returns-in-err-next : goal.returns-in-err-next
-returns-in-err-next c =
+pub returns-in_err-next : goal.returns-in_err-next
+returns-in_err-next c =
     let t = c.args.text.now in
     record {
-      value = handed_on _ _ c.from-residual-in-err-next.ensures.1 ∙ ap (result_map_both summary (λ e. e)) (sym (reads_wrong t _ c.loop-closing.invariant _ c.in-err-next.ensures.value));
+      value = handed_on _ _ c.from_residual-in_err-next.ensures.1 ∙ ap (result_map_both summary (λ e. e)) (sym (reads_wrong t _ c.loop-closing.invariant _ c.in_err-next.ensures.value));
       law = record_law t;
     }
 
 pub loop-closing-preserved : goal.loop-closing-preserved
 loop-closing-preserved c =
     let s = standing c.loop-closing.reader in
-    let got = c.in-ok-next.ensures in
+    let got = c.in_ok-next.ensures in
     reads_row c.args.text.now s c.loop-closing.invariant c.in-Row.field-0 (standing c.next.new.self)
     (ap Ok (sym c.in-Row.is) ∙ got.value) (got.reader ∙ ap (λ (x : Next). moved_on s (Ok x)) c.in-Row.is)
 
 pub loop-closing-smaller : goal.loop-closing-smaller
 loop-closing-smaller c =
     let s = standing c.loop-closing.reader in
-    let got = c.in-ok-next.ensures in
+    let got = c.in_ok-next.ensures in
     let moved : standing c.next.new.self ≡ moved_on s (Ok (Row c.in-Row.field-0)) = got.reader ∙ ap (λ (x : Next). moved_on s (Ok x)) c.in-Row.is in
-    let less = less_left s c.in-ok-next.field-0 got.value in
+    let less = less_left s c.in_ok-next.field-0 got.value in
     omega (arith, ap (λ (x : Standing). length x.rest) moved)
 
 pub returns-in-End : goal.returns-in-End
@@ -48,7 +48,7 @@ returns-in-End c =
     let t = c.args.text.now in
     let s = standing c.loop-closing.reader in
     let r = c.loop-closing.invariant in
-    let got = c.in-ok-next.ensures in
+    let got = c.in_ok-next.ensures in
     let closing = c.in-End.closing in
     let gone : standing c.next.new.self ≡ moved_on s (Ok (End closing)) = got.reader ∙ ap (λ (x : Next). moved_on s (Ok x)) c.in-End.is in
     let heading = c.heading.ensures ∙ ap (λ (x : Standing). x.heading) gone in

@@ -12,12 +12,12 @@ bounds-sheet-row c = omega (arith, start_within c.args.heading.now c.args.sheet.
 
 pub returns-then-sheet-row-eq-ROCK : goal.returns-then-sheet-row-eq-ROCK
 returns-then-sheet-row-eq-ROCK c =
-    ap (λ p. Err (StartOnRock p)) c.in-column-then-sheet-row-eq-ROCK.ensures
+    ap (λ p. Err (StartOnRock p)) c.in_column-then-sheet-row-eq-ROCK.ensures
     ∙ start_on_rock c.args.heading.now c.args.sheet.now (omega arith) c.requires.2 (omega arith)
 
 pub returns-then-heading-cells-2 : goal.returns-then-heading-cells-2
 returns-then-heading-cells-2 c =
-    ap (λ p. Err (GoalOffFloor p)) c.in-column-then-heading-cells-2.ensures
+    ap (λ p. Err (GoalOffFloor p)) c.in_column-then-heading-cells-2.ensures
     ∙ goal_off c.args.heading.now c.args.sheet.now (omega arith) c.requires.2 (λ e. omega arith) (omega arith)
 
 pub returns : goal.returns

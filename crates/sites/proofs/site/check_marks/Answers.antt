@@ -14,8 +14,8 @@ marked l c t i h e = at_drop_more (marks_check l c) t i 0 h ∙ rw e refl
 foreign : (l : TextLine) (c : ℕ) (t : List ℕ) (i : ℕ) → i < length t → is_mark (get_or t i 0) ≡ false → marks_check l c (drop i t) ≡ Err (Foreign (in_line l c))
 foreign l c t i h e = at_drop_more (marks_check l c) t i 0 h ∙ rw e refl
 
-pub returns-in-default : goal.returns-in-default
-returns-in-default c =
+pub returns-in_default : goal.returns-in_default
+returns-in_default c =
     let l = line_text c.args.line.now in
     let t = c.args.line.now.bytes.now in
     let i = c.loop-i.i in

@@ -5,15 +5,15 @@ use Rattle.texts.proofs.Steps.{on, handed_on}
 use Rattle.texts.proofs.Words.{right_length}
 use Rattle.sites.proofs.site.check_row.Goals as goal
 
-pub returns-in-err-check-length : goal.returns-in-err-check-length
+pub returns-in_err-check_length : goal.returns-in_err-check_length
 unfolding row_check
-returns-in-err-check-length c =
-    handed_on _ _ c.from-residual.ensures.1
-    ∙ on _ (ap in_text c.in-err-check-length.ensures)
+returns-in_err-check_length c =
+    handed_on _ _ c.from_residual.ensures.1
+    ∙ on _ (ap in_text c.in_err-check_length.ensures)
 
-pub check-marks-requires : goal.check-marks-requires
-check-marks-requires c = omega (arith, (right_length (line_text c.args.line.now) c.args.width c.in-ok-check-length.ensures).0)
+pub check_marks-requires : goal.check_marks-requires
+check_marks-requires c = omega (arith, (right_length (line_text c.args.line.now) c.args.width c.in_ok-check_length.ensures).0)
 
 pub returns : goal.returns
 unfolding row_check
-returns c = c.check-marks.ensures ∙ on _ (ap in_text c.in-ok-check-length.ensures)
+returns c = c.check_marks.ensures ∙ on _ (ap in_text c.in_ok-check_length.ensures)

@@ -11,39 +11,39 @@ use Rattle.sites.proofs.Laid.{site_law_of}
 use Rattle.texts.proofs.Headings.{sides}
 use Rattle.sites.proofs.site.read_site.Goals as goal
 
-pub returns-then-text-gt-MOST-BYTES : goal.returns-then-text-gt-MOST-BYTES
-returns-then-text-gt-MOST-BYTES c =
+pub returns-then-text-gt-MOST_BYTES : goal.returns-then-text-gt-MOST_BYTES
+returns-then-text-gt-MOST_BYTES c =
     let t = c.args.text.now in
     let same = too_long t (omega arith) in
     record { value = same; accepted = tt; law = site_law_of (Err TooLong) t same }
 
-pub returns-in-err-due : goal.returns-in-err-due
-returns-in-err-due c =
+pub returns-in_err-due : goal.returns-in_err-due
+returns-in_err-due c =
     let t = c.args.text.now in
-    let r = c.from-residual.result in
-    let same = ap (result_map_both site_value (λ e. e)) (handed_on _ _ c.from-residual.ensures.1)
-    ∙ no_first t (omega arith) c.new-lines.ensures.1 c.new-lines.ensures.0 _ c.in-err-due.ensures.line in
-    record { value = same; accepted = IfOk-from_err _ _ c.from-residual.ensures.0; law = site_law_of r t same }
+    let r = c.from_residual.result in
+    let same = ap (result_map_both site_value (λ e. e)) (handed_on _ _ c.from_residual.ensures.1)
+    ∙ no_first t (omega arith) c.new-lines.ensures.1 c.new-lines.ensures.0 _ c.in_err-due.ensures.line in
+    record { value = same; accepted = IfOk-from_err _ _ c.from_residual.ensures.0; law = site_law_of r t same }
 
-pub returns-in-err-heading : goal.returns-in-err-heading
-returns-in-err-heading c =
+pub returns-in_err-heading : goal.returns-in_err-heading
+returns-in_err-heading c =
     let t = c.args.text.now in
-    let r = c.from-residual-in-err-heading.result in
-    let same = ap (result_map_both site_value (λ e. e)) (handed_on _ _ c.from-residual-in-err-heading.ensures.1)
-    ∙ first_wrong t (omega arith) c.new-lines.ensures.1 c.new-lines.ensures.0 (line_text c.in-ok-due.field-0) _
-    c.in-ok-due.ensures.line c.in-err-heading.ensures in
-    record { value = same; accepted = IfOk-from_err _ _ c.from-residual-in-err-heading.ensures.0; law = site_law_of r t same }
+    let r = c.from_residual-in_err-heading.result in
+    let same = ap (result_map_both site_value (λ e. e)) (handed_on _ _ c.from_residual-in_err-heading.ensures.1)
+    ∙ first_wrong t (omega arith) c.new-lines.ensures.1 c.new-lines.ensures.0 (line_text c.in_ok-due.field-0) _
+    c.in_ok-due.ensures.line c.in_err-heading.ensures in
+    record { value = same; accepted = IfOk-from_err _ _ c.from_residual-in_err-heading.ensures.0; law = site_law_of r t same }
 
-pub read-sheet-requires : goal.read-sheet-requires
-read-sheet-requires c =
-    let h = c.in-ok-heading.heading in
-    let s = sides h (headed (line_text c.in-ok-due.field-0) h c.in-ok-heading.ensures).known in
-    (s.width, s.height, c.in-ok-due.ensures.number ∙ ap next_number c.new-lines.ensures.1)
+pub read_sheet-requires : goal.read_sheet-requires
+read_sheet-requires c =
+    let h = c.in_ok-heading.heading in
+    let s = sides h (headed (line_text c.in_ok-due.field-0) h c.in_ok-heading.ensures).known in
+    (s.width, s.height, c.in_ok-due.ensures.number ∙ ap next_number c.new-lines.ensures.1)
 
 pub returns : goal.returns
 returns c =
     let t = c.args.text.now in
-    let same = c.read-sheet.ensures
-    ∙ first_right t (omega arith) c.new-lines.ensures.1 c.new-lines.ensures.0 (line_text c.in-ok-due.field-0) c.in-ok-heading.heading _
-    c.in-ok-due.ensures.line c.in-ok-heading.ensures c.due.ensures.rest in
-    record { value = same; accepted = accepted_site c.read-sheet.result t same; law = site_law_of c.read-sheet.result t same }
+    let same = c.read_sheet.ensures
+    ∙ first_right t (omega arith) c.new-lines.ensures.1 c.new-lines.ensures.0 (line_text c.in_ok-due.field-0) c.in_ok-heading.heading _
+    c.in_ok-due.ensures.line c.in_ok-heading.ensures c.due.ensures.rest in
+    record { value = same; accepted = accepted_site c.read_sheet.result t same; law = site_law_of c.read_sheet.result t same }

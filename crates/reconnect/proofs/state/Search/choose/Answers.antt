@@ -18,7 +18,7 @@ loop-entry-preserved g c =
       λ size stages same q.
           passed m.scale g.met.M.Measure.ordered m.value size stages old c.loop-entry.self.waiting c.pop.new.queue e left out (inv.2 size stages same q)
           c.args.self.now.number c.args.board.now same c.stage_in.result
-          (c.stage_in.ensures ∙ ap (λ n. stage_at n c.args.board.now e.cell) number) c.in-default-stage-in.not-Waiting,
+          (c.stage_in.ensures ∙ ap (λ n. stage_at n c.args.board.now e.cell) number) c.in_default-stage_in.not-Waiting,
     )
 
 pub returns-in-Waiting : goal.returns-in-Waiting
@@ -43,7 +43,7 @@ pub returns : goal.returns
 returns g c =
     let m = g.M.Measure in
     let inv = c.loop-entry.invariant in
-    let none = c.in-default.ensures in
+    let none = c.in_default.ensures in
     record {
       rest = inv.0;
       fewer = inv.1;

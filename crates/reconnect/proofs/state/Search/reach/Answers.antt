@@ -11,10 +11,10 @@ use Rattle.reconnect.specs.Frontier.{taken_cells, Numbered, Frontier}
 use Rattle.reconnect.specs.Reaching.{improves, reached_from}
 use Rattle.reconnect.proofs.Reaching.{not_taken, extends, mark_there, same_improved, left_alone, on_rock, no_better, reached_better, pushed}
 use Rattle.reconnect.proofs.state.Search.reach.Goals as goal
-use Rattle.reconnect.proofs.state.Search.reach.Goals.{then-is-rock-via-then-is-rock, then-is-rock-via-else-is-rock+then-not-improved-by}
+use Rattle.reconnect.proofs.state.Search.reach.Goals.{then-is_rock-via-then-is_rock, then-is_rock-via-else-is_rock+then-not-improved_by}
 
-pub returns-then-is-rock : goal.returns-then-is-rock
-returns-then-is-rock g c =
+pub returns-then-is_rock : goal.returns-then-is_rock
+returns-then-is_rock g c =
     let m = g.M.Measure in
     let ordered = g.met.M.Measure.ordered in
     let x = c.args.self.now in
@@ -28,18 +28,18 @@ returns-then-is-rock g c =
           let w : World = over l ground aim m.scale in
           let marked = c.mark-mark.ensures ∙ mark_there w ordered m.value m.kept x.number board queue x.waiting q t c.args.cost c.args.cell k inside small exact early f in (
             left_alone w ordered m.value m.kept x.number board queue x.waiting q t c.args.cost c.args.cell k inside small exact early f
-                (elim c.then-is-rock.branch [
-                  | then-is-rock-via-then-is-rock v ↦
+                (elim c.then-is_rock.branch [
+                  | then-is_rock-via-then-is_rock v ↦
                       on_rock w ordered m.value m.kept x.number board queue x.waiting q t c.args.cost c.args.cell k inside small exact early f
-                      (sym (ap is_rock_mark marked) ∙ sym v.if-is-rock.ensures)
-                  | then-is-rock-via-else-is-rock+then-not-improved-by v ↦
+                      (sym (ap is_rock_mark marked) ∙ sym v.if-is_rock.ensures)
+                  | then-is_rock-via-else-is_rock+then-not-improved_by v ↦
                       no_better w ordered m.value m.kept x.number board queue x.waiting q t c.args.cost c.args.cell k inside small exact early f
                       (same_improved w ordered m.value m.kept x.number board queue x.waiting q t c.args.cost c.args.cell k inside small exact early f c.extend-reached.result
                       (λ e.
                       (c.extend-reached.ensures k exact (extends w ordered m.value m.kept x.number board queue x.waiting q t c.args.cost c.args.cell k inside small exact early f e) low high).0
-                      ∙ ap (λ u. m.scale.extend (m.value t.measure) c.args.cost u) (c.is_unseen_mark.ensures ∙ ap is_unseen_mark marked))
+                      ∙ ap (λ u. m.scale.extend (m.value t.measure) c.args.cost u) (c.is_unseen.ensures ∙ ap is_unseen_mark marked))
                       false
-                      (v.if-not-improved-by.ensures ∙ ap (λ s. improves m.scale m.value (stage_shown m.value s) (m.value c.extend-reached.result)) v.stage_in.ensures))
+                      (v.if-not-improved_by.ensures ∙ ap (λ s. improves m.scale m.value (stage_shown m.value s) (m.value c.extend-reached.result)) v.stage_in.ensures))
                 ]),
             omega arith,
           );
@@ -57,25 +57,25 @@ returns g c =
     record {
       rest = refl;
       numbered = λ size h.
-          subst (Numbered size x.number) (sym c.set-stage.ensures)
+          subst (Numbered size x.number) (sym c.set_stage.ensures)
           (numbers_kept x.number (with_stage x.number (stage.Waiting r t.cell)) (λ y o. omega arith) size board c.args.cell h);
       reaches = λ l ground aim q k inside small low high exact early room f.
           let w : World = over l ground aim m.scale in
           let marked = c.mark-mark.ensures ∙ mark_there w ordered m.value m.kept x.number board queue x.waiting q t c.args.cost c.args.cell k inside small exact early f in
           let short = extends w ordered m.value m.kept x.number board queue x.waiting q t c.args.cost c.args.cell k inside small exact early f in
           let measured : is_taken (q c.args.cell).stage ≡ false → m.value r ≡ m.scale.extend (m.value t.measure) c.args.cost (is_unseen_mark (q c.args.cell).mark) =
-          λ e. (c.extend-reached.ensures k exact (short e) low high).0 ∙ ap (λ u. m.scale.extend (m.value t.measure) c.args.cost u) (c.is_unseen_mark.ensures ∙ ap is_unseen_mark marked) in
+          λ e. (c.extend-reached.ensures k exact (short e) low high).0 ∙ ap (λ u. m.scale.extend (m.value t.measure) c.args.cost u) (c.is_unseen.ensures ∙ ap is_unseen_mark marked) in
           let better =
           same_improved w ordered m.value m.kept x.number board queue x.waiting q t c.args.cost c.args.cell k inside small exact early f r measured true
-          (c.if-not-improved-by.ensures ∙ ap (λ s. improves m.scale m.value (stage_shown m.value s) (m.value r)) c.stage_in.ensures) in
+          (c.if-not-improved_by.ensures ∙ ap (λ s. improves m.scale m.value (stage_shown m.value s) (m.value r)) c.stage_in.ensures) in
           let free = not_taken w ordered m.value m.kept (q c.args.cell).stage _ better in
           let added = pushed m.scale m.value queue c.push.new.queue x.waiting x.waiting (record { value = r; cell = c.args.cell }) c.push.result room c.push.ensures in
-          let count = c.unwrap-or-self.ensures in
+          let count = c.unwrap_or-self.ensures in
           let At : List (Square g.row.M.Denot) → ℕ → Type 0 = λ b n. Frontier m.scale m.value m.kept l.size x.number b c.push.new.queue n (reached_from w m.value q t c.args.cost c.args.cell) in (
-            subst (At c.set-stage.new.board) (sym count)
-                (subst (λ b. At b (unwrap_or c.push.result x.waiting)) (sym c.set-stage.ensures)
+            subst (At c.set_stage.new.board) (sym count)
+                (subst (λ b. At b (unwrap_or c.push.result x.waiting)) (sym c.set_stage.ensures)
                 (reached_better w ordered m.value m.kept x.number board queue x.waiting q t c.args.cost c.args.cell k inside small exact early f
-                (sym (ap is_rock_mark marked) ∙ sym c.if-is-rock.ensures) better r (measured free) (c.extend-reached.ensures k exact (short free) low high).1 c.push.new.queue (unwrap_or c.push.result x.waiting) added)),
+                (sym (ap is_rock_mark marked) ∙ sym c.if-is_rock.ensures) better r (measured free) (c.extend-reached.ensures k exact (short free) low high).1 c.push.new.queue (unwrap_or c.push.result x.waiting) added)),
             omega (arith, count, added.counted),
           );
     }

@@ -29,17 +29,17 @@ loop-step-preserved g c =
     let cell = c.loop-step.cell in
     let board = c.loop-step.board in
     let d = c.towards.result in
-    let back = c.back-of-back.ensures ∙ ap back_in c.stage_in.ensures in
-    let left = l.size - (c.loop-step.-step + 1) in (
+    let back = c.back_of-back.ensures ∙ ap back_in c.stage_in.ensures in
+    let left = l.size - (c.loop-step._step + 1) in (
       λ size h.
           subst (Numbered size number) (sym c.set_pointer.ensures)
-          (numbers_kept number (with_pointer d) (λ x o. o) size board c.back-of-back.result (c.loop-step.invariant.0 size h)),
+          (numbers_kept number (with_pointer d) (λ x o. o) size board c.back_of-back.result (c.loop-step.invariant.0 size h)),
       λ ground aim q homewards taken shown.
           let w : World = over l ground aim g.M.Measure.scale in
           let On : List (Square g.row.M.Denot) → ℕ → ℕ → Type 0 = Tracing w g.M.Measure.value number c.args.home q c.args.taken in
-          let one : l.size - c.loop-step.-step ≡ suc left = omega (arith, c.size-step-end.ensures) in
+          let one : l.size - c.loop-step._step ≡ suc left = omega (arith, c.size-step-end.ensures) in
           let so_far : On board (suc left) cell = subst (λ n. On board n cell) one (c.loop-step.invariant.1 ground aim q homewards taken shown) in
-          subst (λ b. On b left c.back-of-back.result) (sym c.set_pointer.ensures)
+          subst (λ b. On b left c.back_of-back.result) (sym c.set_pointer.ensures)
           (subst (λ b. d ≡ first_direction 8 (λ e. is (l.beside b e) cell) → On (changed (with_pointer d) board b) left b) (sym back)
           (tracing_more w g.M.Measure.value number c.args.home q c.args.taken homewards board left cell so_far c.if-cell-home.false d)
           c.towards.ensures),
@@ -49,12 +49,12 @@ pub returns-then-cell-home : goal.returns-then-cell-home
 returns-then-cell-home g c =
     let l = g.L.Lattice.grid c.args.lattice.now in
     let number = c.args.self.now.number in
-    let left = l.size - (c.loop-step.-step + 1) in
+    let left = l.size - (c.loop-step._step + 1) in
     record {
       numbered = c.loop-step.invariant.0;
       retraces = λ ground aim q homewards taken shown.
           let w : World = over l ground aim g.M.Measure.scale in
-          let one : l.size - c.loop-step.-step ≡ suc left = omega (arith, c.size-step-end.ensures) in
+          let one : l.size - c.loop-step._step ≡ suc left = omega (arith, c.size-step-end.ensures) in
           tracing_home w g.M.Measure.value number c.args.home q c.args.taken c.loop-step.board left c.loop-step.cell
           (subst (λ n. Tracing w g.M.Measure.value number c.args.home q c.args.taken c.loop-step.board n c.loop-step.cell) one (c.loop-step.invariant.1 ground aim q homewards taken shown))
           c.if-cell-home.true;
@@ -68,7 +68,7 @@ returns g c =
       numbered = c.loop-step.invariant.0;
       retraces = λ ground aim q homewards taken shown.
           let w : World = over l ground aim g.M.Measure.scale in
-          let none : l.size - c.loop-step.-step ≡ 0 = omega (arith, c.size-step-end.ensures) in
+          let none : l.size - c.loop-step._step ≡ 0 = omega (arith, c.size-step-end.ensures) in
           tracing_end w g.M.Measure.value number c.args.home q c.args.taken c.loop-step.board c.loop-step.cell
           (subst (λ n. Tracing w g.M.Measure.value number c.args.home q c.args.taken c.loop-step.board n c.loop-step.cell) none (c.loop-step.invariant.1 ground aim q homewards taken shown));
     }

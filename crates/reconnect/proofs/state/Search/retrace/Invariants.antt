@@ -15,4 +15,4 @@ invariant-loop-step g l =
     × ((ground : Ground) (aim : Guide) (q : Squares (over (g.L.Lattice.grid l.lattice) ground aim g.M.Measure.scale)) →
     Homewards (over (g.L.Lattice.grid l.lattice) ground aim g.M.Measure.scale) l.home q → is_taken (q l.taken).stage ≡ true →
     Shown g.M.Measure.value (g.L.Lattice.grid l.lattice).size l.self.number l.initial.board q →
-    Tracing (over (g.L.Lattice.grid l.lattice) ground aim g.M.Measure.scale) g.M.Measure.value l.self.number l.home q l.taken l.board ((g.L.Lattice.grid l.lattice).size - l.-step) l.cell)
+    Tracing (over (g.L.Lattice.grid l.lattice) ground aim g.M.Measure.scale) g.M.Measure.value l.self.number l.home q l.taken l.board ((g.L.Lattice.grid l.lattice).size - l._step) l.cell)

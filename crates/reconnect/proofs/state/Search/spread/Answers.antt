@@ -11,7 +11,7 @@ use Rattle.reconnect.specs.Frontier.{Numbered, Frontier}
 use Rattle.reconnect.specs.Reaching.{with_entries, IsMeasure, Reaches}
 use Rattle.reconnect.proofs.Spreading.{spread_by, taken_same, spread_none, spread_more, spread_end, taken_measured}
 use Rattle.reconnect.proofs.state.Search.spread.Goals as goal
-use Rattle.reconnect.proofs.state.Search.spread.Goals.{in-Some, in-default}
+use Rattle.reconnect.proofs.state.Search.spread.Goals.{in-Some, in_default}
 
 pub loop-bit-preserved : goal.loop-bit-preserved
 loop-bit-preserved g c =
@@ -34,12 +34,12 @@ loop-bit-preserved g c =
     Held ground aim q c.args.board.now c.args.queue.now x.waiting →
     Held ground aim (spread_by (over l ground aim m.scale) lawful q a (k + 1)) b es y.waiting × (y.waiting ≤ x.waiting + (k + 1))) in
     elim c.match-beside.branch [
-      | in-default v ↦ subst₃ So (sym v.self-is) (sym v.board-is) (sym v.queue-is) (
+      | in_default v ↦ subst₃ So (sym v.self-is) (sym v.board-is) (sym v.queue-is) (
         inv.0,
         inv.1,
         λ ground aim q inside taken room f.
             let w : World = over l ground aim m.scale in
-            let e : l.beside a (suc k) ≡ None = subst (λ n. l.beside a n ≡ None) (add-one k) (sym v.in-default.ensures) in
+            let e : l.beside a (suc k) ≡ None = subst (λ n. l.beside a n ≡ None) (add-one k) (sym v.in_default.ensures) in
             let old = inv.2 ground aim q inside taken room f in
             (subst (λ p. Held ground aim p c.loop-bit.board c.loop-bit.queue c.loop-bit.self.waiting) (spread_none w lawful q a k e ∙ ap (spread_by w lawful q a) (sym (add-one k))) old.0, omega (arith, old.1)),
       )

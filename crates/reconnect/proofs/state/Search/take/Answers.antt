@@ -13,14 +13,14 @@ use Rattle.reconnect.specs.Steps.{ComesTo}
 use Rattle.reconnect.proofs.Taking.{stages_as, shuts, shut_represents, takes, taken_represents}
 use Rattle.reconnect.proofs.state.Search.take.Goals as goal
 
-pub returns-in-default : goal.returns-in-default
-returns-in-default g c l ground aim s searching rest r =
+pub returns-in_default : goal.returns-in_default
+returns-in_default g c l ground aim s searching rest r =
     let m = g.M.Measure in
     let ordered = g.met.M.Measure.ordered in
     let w : World = over l ground aim m.scale in
     let x = c.args.self.now in
     let memory : Memory g.row.M.Denot = record { search = x; board = c.args.board.now; queue = c.args.queue.now } in
-    let said = c.in-default.ensures in
+    let said = c.in_default.ensures in
     let none = said.choice l.size (λ a. (s.squares a).stage) (stages_as w ordered m.value m.kept memory s searching rest r) (r.frontier searching).queued in
     let As : Search → Memory g.row.M.Denot = λ y. record { search = y; board = c.args.board.now; queue = c.choose.new.queue } in
     subst (ComesTo w m.value m.kept course.Shut (As c.choose.new.self)) (sym (shuts w ordered m.value m.kept memory s searching rest r none)) (
@@ -42,9 +42,9 @@ returns g c l ground aim s searching rest r =
     let n = c.choose.new.self.waiting in
     let choice = said.choice l.size (λ a. (s.squares a).stage) (stages_as w ordered m.value m.kept memory s searching rest r) (r.frontier searching).queued in
     let As : ℕ → List (Square g.row.M.Denot) → Memory g.row.M.Denot = λ k b. record { search = record { number = k; waiting = n; walk = walk.Walking chosen.cell chosen.cell }; board = b; queue = queue } in
-    subst (ComesTo w m.value m.kept course.Going (As c.choose.new.self.number c.set-stage.new.board)) (sym (takes w ordered m.value m.kept memory s searching rest r chosen queue n choice)) (
+    subst (ComesTo w m.value m.kept course.Going (As c.choose.new.self.number c.set_stage.new.board)) (sym (takes w ordered m.value m.kept memory s searching rest r chosen queue n choice)) (
       refl,
       subst₂ (λ k b. Represents w m.value m.kept (As k b) (took w s chosen.cell).0) (sym number)
-          (sym (c.set-stage.ensures ∙ ap (λ k. changed (with_stage k (stage.Taken chosen.measure chosen.back)) c.args.board.now chosen.cell) number))
+          (sym (c.set_stage.ensures ∙ ap (λ k. changed (with_stage k (stage.Taken chosen.measure chosen.back)) c.args.board.now chosen.cell) number))
           (taken_represents w ordered m.value m.kept memory s searching rest r chosen queue n choice said.fewer c.choose.auto.queue),
     )

@@ -41,14 +41,14 @@ returns-in-Some g c ground s n fit reached searching home under-way r =
     let memory : Memory g.row.M.Denot = record { search = x; board = c.args.board.now; queue = c.args.queue.now } in
     let board = changed (with_paint x.number) c.args.board.now b in
     let inside = (walk_inside w fit s n reached searching a b under-way).1 in
-    let said = unpainted_some board x.number (l.beside b (pointer_at board b)) c.in-Some.next (subst (λ z. Some c.in-Some.next ≡ unpainted z x.number (l.beside b (pointer_at z b))) c.set-paint.ensures c.in-Some.ensures) in
+    let said = unpainted_some board x.number (l.beside b (pointer_at board b)) c.in-Some.next (subst (λ z. Some c.in-Some.next ≡ unpainted z x.number (l.beside b (pointer_at z b))) c.set_paint.ensures c.in-Some.ensures) in
     let on = sym (next_painted w m.value m.kept memory s searching a b under-way r inside) ∙ said.0 in
     let beyond = (fit.lattice.within b _ c.in-Some.next said.0).1 in
     let fresh : (painting w s b c.in-Some.next).paint ≡ s.searches → ⊥ = λ e. said.1 (paint_painted w m.value m.kept memory s searching a b under-way r c.in-Some.next beyond ∙ e ∙ sym r.number) in
     let As : List (Square g.row.M.Denot) → Memory g.row.M.Denot = λ z. record { search = record { number = x.number; waiting = x.waiting; walk = walk.Walking a c.in-Some.next }; board = z; queue = c.args.queue.now } in
-    subst (ComesTo w m.value m.kept course.Going (As c.set-paint.new.board)) (sym (walks w s a b c.in-Some.next (λ e. c.if-at-goal.false (e ∙ sym c.goal.ensures)) on fresh)) (
+    subst (ComesTo w m.value m.kept course.Going (As c.set_paint.new.board)) (sym (walks w s a b c.in-Some.next (λ e. c.if-at-goal.false (e ∙ sym c.goal.ensures)) on fresh)) (
       refl,
-      subst (λ z. Represents w m.value m.kept (As z) (walked w s a b c.in-Some.next).0) (sym c.set-paint.ensures) (walked_represents w m.value m.kept memory s searching a b under-way r c.in-Some.next),
+      subst (λ z. Represents w m.value m.kept (As z) (walked w s a b c.in-Some.next).0) (sym c.set_paint.ensures) (walked_represents w m.value m.kept memory s searching a b under-way r c.in-Some.next),
     )
 
 pub returns-in-None : goal.returns-in-None
@@ -71,9 +71,9 @@ returns-in-None g c ground s n fit reached searching home under-way r =
     ⊎_elim
     (λ none. stops_nowhere w s a b not_there (sym painted-next ∙ none))
     (λ some. stops_painted w s a b some.0 not_there (sym painted-next ∙ some.1) (sym (paint_painted w m.value m.kept memory s searching a b under-way r some.0 (fit.lattice.within b _ some.0 some.1).1) ∙ some.2 ∙ r.number))
-    (unpainted_none board x.number (l.beside b (pointer_at board b)) (subst (λ z. None ≡ unpainted z x.number (l.beside b (pointer_at z b))) c.set-paint.ensures c.in-None.ensures)) in
+    (unpainted_none board x.number (l.beside b (pointer_at board b)) (subst (λ z. None ≡ unpainted z x.number (l.beside b (pointer_at z b))) c.set_paint.ensures c.in-None.ensures)) in
     let spreads : Spreads l m.scale m.value m.kept a x.number board c.spread.new.board c.args.queue.now c.spread.new.queue x.waiting c.spread.new.self.waiting =
-    subst (λ z. Spreads l m.scale m.value m.kept a x.number z c.spread.new.board c.args.queue.now c.spread.new.queue x.waiting c.spread.new.self.waiting) c.set-paint.ensures c.spread.ensures.spreads in
+    subst (λ z. Spreads l m.scale m.value m.kept a x.number z c.spread.new.board c.args.queue.now c.spread.new.queue x.waiting c.spread.new.self.waiting) c.set_paint.ensures c.spread.ensures.spreads in
     let new =
     spreads ground aim (painting w s b) a-inside (ap is_taken (same_stage w m.value m.kept memory s searching a b under-way r a) ∙ Walked-from.0)
     (room_to_spread w m.value m.kept memory s searching a b under-way r lawful a-inside Walked-from.0)
@@ -84,5 +84,5 @@ returns-in-None g c ground s n fit reached searching home under-way r =
       subst (λ z. Represents w m.value m.kept (As z) (stopped w s a b).0) (sym c.spread.ensures.rest)
           (stopped_represents w m.value m.kept memory s searching a b under-way r lawful a-inside Walked-from.0 c.spread.new.board c.spread.new.queue c.spread.new.self.waiting
           c.spread.auto.queue
-          (λ h. c.spread.ensures.numbered l.size (subst (Numbered l.size x.number) (sym c.set-paint.ensures) h)) new.1 new.0),
+          (λ h. c.spread.ensures.numbered l.size (subst (Numbered l.size x.number) (sym c.set_paint.ensures) h)) new.1 new.0),
     )

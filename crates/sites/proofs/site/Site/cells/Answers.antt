@@ -36,5 +36,5 @@ pub loop-row-preserved : goal.loop-row-preserved
 loop-row-preserved c =
     let h = c.args.self.now.heading in
     let s = c.loop-row.rest.now in
-    row h.width h.height c.loop-row.-row (vec_items c.loop-row.cells) (vec_items c.extend-from-slice.new.self) s _ c.min.result c.min-in-loop-row.result
-    (omega arith) c.loop-row.invariant (omega arith) (omega arith) c.in-ok-extend-from-slice.ensures.items
+    row h.width h.height c.loop-row._row (vec_items c.loop-row.cells) (vec_items c.extend_from_slice.new.self) s _ c.min.result c.min-in-loop-row.result
+    (omega arith) c.loop-row.invariant (omega arith) (omega arith) c.in_ok-extend_from_slice.ensures.items
