@@ -22,11 +22,11 @@ impl<G: Guide> Drive<G> {
         carrier: &mut C,
         board: &[Square<M>],
     ) -> Result<u32, Refusal>
-        ensures refused { IfErr result (λ e. (go_refusal self.old board.now (G.Lattice.grid self.old.guide) (Floor-as-Lattice.grid (C.Carrier.floor carrier.old)) (C.Carrier.ground carrier.old) ≡ Some e) × (self.new ≡ self.old) × (carrier.new ≡ carrier.old)) }
-        ensures accepted { OnOk result (go_refusal self.old board.now (G.Lattice.grid self.old.guide) (Floor-as-Lattice.grid (C.Carrier.floor carrier.old)) (C.Carrier.ground carrier.old) ≡ None) }
+        ensures refused { IfErr result (λ e. (go_refusal self.old board.now (G.Lattice.grid self.old.guide) (C.Floor.Lattice.grid (C.Carrier.floor carrier.old)) (C.Carrier.ground carrier.old) ≡ Some e) × (self.new ≡ self.old) × (carrier.new ≡ carrier.old)) }
+        ensures accepted { OnOk result (go_refusal self.old board.now (G.Lattice.grid self.old.guide) (C.Floor.Lattice.grid (C.Carrier.floor carrier.old)) (C.Carrier.ground carrier.old) ≡ None) }
         ensures guide { self.new.guide ≡ self.old.guide }
         ensures stays { C.Carrier.floor carrier.new ≡ C.Carrier.floor carrier.old }
-        ensures own { G.Lattice.grid self.old.guide ≡ Floor-as-Lattice.grid (C.Carrier.floor carrier.old) → (queue : List (Entry M)) → Agrees (G.Lattice.grid self.old.guide) (G.Guide.aim self.old.guide) M.Measure.scale M.Measure.value M.Measure.kept go (go-answer result) (record { drive = self.old; board = board.now; queue = queue; ground = C.Carrier.ground carrier.old }) (record { drive = self.new; board = board.now; queue = queue; ground = C.Carrier.ground carrier.new }) }
+        ensures own { G.Lattice.grid self.old.guide ≡ C.Floor.Lattice.grid (C.Carrier.floor carrier.old) → (queue : List (Entry M)) → Agrees (G.Lattice.grid self.old.guide) (G.Guide.aim self.old.guide) M.Measure.scale M.Measure.value M.Measure.kept go (go-answer result) (record { drive = self.old; board = board.now; queue = queue; ground = C.Carrier.ground carrier.old }) (record { drive = self.new; board = board.now; queue = queue; ground = C.Carrier.ground carrier.new }) }
     {
         let lent = Lent {
             records: board.len(),

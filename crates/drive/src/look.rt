@@ -29,7 +29,7 @@ impl<G: Guide> Drive<G> {
         ensures accepted { OnOk result (look_refusal self.old board.old queue.old (G.Lattice.grid self.old.guide) (C.Carrier.ground carrier.now) ≡ None) }
         ensures beyond { drop (G.Lattice.grid self.old.guide).size board.new ≡ drop (G.Lattice.grid self.old.guide).size board.old }
         ensures guide { self.new.guide ≡ self.old.guide }
-        ensures own { G.Lattice.grid self.old.guide ≡ Floor-as-Lattice.grid (C.Carrier.floor carrier.now) → Agrees (G.Lattice.grid self.old.guide) (G.Guide.aim self.old.guide) M.Measure.scale M.Measure.value M.Measure.kept look (look-answer result) (record { drive = self.old; board = board.old; queue = queue.old; ground = C.Carrier.ground carrier.now }) (record { drive = self.new; board = board.new; queue = queue.new; ground = C.Carrier.ground carrier.now }) }
+        ensures own { G.Lattice.grid self.old.guide ≡ C.Floor.Lattice.grid (C.Carrier.floor carrier.now) → Agrees (G.Lattice.grid self.old.guide) (G.Guide.aim self.old.guide) M.Measure.scale M.Measure.value M.Measure.kept look (look-answer result) (record { drive = self.old; board = board.old; queue = queue.old; ground = C.Carrier.ground carrier.now }) (record { drive = self.new; board = board.new; queue = queue.new; ground = C.Carrier.ground carrier.now }) }
     {
         let lent = Lent {
             records: board.len(),

@@ -31,7 +31,7 @@ pub(crate) fn drive_on<G: Guide, C: Carrier, M: Measure>(
     buffer: &mut [u8],
 ) -> Result<Ending, Fault>
     requires own { Own (over (G.Lattice.grid drive.now.guide) (C.Carrier.ground carrier.old) (G.Guide.aim drive.now.guide) M.Measure.scale) M.Measure.value M.Measure.kept (record { drive = drive.now; board = board.old; queue = queue.old; ground = C.Carrier.ground carrier.old }) (fresh (over (G.Lattice.grid drive.now.guide) (C.Carrier.ground carrier.old) (G.Guide.aim drive.now.guide) M.Measure.scale)) 0 }
-    requires floor { G.Lattice.grid drive.old.guide ≡ Floor-as-Lattice.grid (C.Carrier.floor carrier.old) }
+    requires floor { G.Lattice.grid drive.old.guide ≡ C.Floor.Lattice.grid (C.Carrier.floor carrier.old) }
     requires pen { (pen.old ≡ pen_behind []) × (131 ≤ length buffer.old) }
     ensures { Driven (over (G.Lattice.grid drive.old.guide) (C.Carrier.ground carrier.old) (G.Guide.aim drive.old.guide) M.Measure.scale) buffer.old pen.new buffer.new drive.new.found result }
 {
@@ -57,7 +57,7 @@ fn advance<G: Guide, C: Carrier, M: Measure>(
 ) -> Result<(), Fault>
     ensures guide { drive.new.guide ≡ drive.old.guide }
     ensures floor { C.Carrier.floor carrier.new ≡ C.Carrier.floor carrier.old }
-    ensures advances { (ground : Ground) (s : State (over (G.Lattice.grid drive.entry.now.guide) ground (G.Guide.aim drive.entry.now.guide) M.Measure.scale)) (n : ℕ) → G.Lattice.grid drive.entry.now.guide ≡ Floor-as-Lattice.grid (C.Carrier.floor carrier.old) → Own (over (G.Lattice.grid drive.entry.now.guide) ground (G.Guide.aim drive.entry.now.guide) M.Measure.scale) M.Measure.value M.Measure.kept (record { drive = drive.entry.now; board = board.old; queue = queue.old; ground = C.Carrier.ground carrier.old }) s n → (s.phase ≢ phase.Arrived) → (s.phase ≢ phase.Shut) → Advances (over (G.Lattice.grid drive.entry.now.guide) ground (G.Guide.aim drive.entry.now.guide) M.Measure.scale) M.Measure.value M.Measure.kept (record { drive = drive.exit.now; board = board.new; queue = queue.new; ground = C.Carrier.ground carrier.new }) pen.old pen.new buffer.old buffer.new s n result }
+    ensures advances { (ground : Ground) (s : State (over (G.Lattice.grid drive.entry.now.guide) ground (G.Guide.aim drive.entry.now.guide) M.Measure.scale)) (n : ℕ) → G.Lattice.grid drive.entry.now.guide ≡ C.Floor.Lattice.grid (C.Carrier.floor carrier.old) → Own (over (G.Lattice.grid drive.entry.now.guide) ground (G.Guide.aim drive.entry.now.guide) M.Measure.scale) M.Measure.value M.Measure.kept (record { drive = drive.entry.now; board = board.old; queue = queue.old; ground = C.Carrier.ground carrier.old }) s n → (s.phase ≢ phase.Arrived) → (s.phase ≢ phase.Shut) → Advances (over (G.Lattice.grid drive.entry.now.guide) ground (G.Guide.aim drive.entry.now.guide) M.Measure.scale) M.Measure.value M.Measure.kept (record { drive = drive.exit.now; board = board.new; queue = queue.new; ground = C.Carrier.ground carrier.new }) pen.old pen.new buffer.old buffer.new s n result }
 {
     match drive.tell().phase {
         Phase::Unseen => {

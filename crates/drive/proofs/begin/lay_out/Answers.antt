@@ -13,8 +13,8 @@ loop-cell-preserved g c =
     let start = c.args.start in
     let cell = c.loop-cell.cell in
     let old = c.loop-cell.board in
-    let wrote = c.put.ensures ∙ ap (set old cell) c.first-square.ensures in (
-      ap length c.put.ensures ∙ length-set old cell c.first-square.result ∙ c.loop-cell.invariant.0,
+    let wrote = c.put.ensures ∙ ap (set old cell) c.first_square.ensures in (
+      ap length c.put.ensures ∙ length-set old cell c.first_square.result ∙ c.loop-cell.invariant.0,
       subst (Laid l a start (cell + 1) c.args.board.now) (sym wrote) (laid_more l a start cell c.args.board.now old (omega (arith, c.loop-cell.invariant.0, c.size-cell-end.ensures, c.requires)) c.loop-cell.invariant.1),
     )
 

@@ -10,33 +10,33 @@ use Rattle.drive.proofs.Refusing.{refused_is, allowed_is}
 use Rattle.drive.proofs.Going.{go_refused, go_unmoved, go_accepted}
 use Rattle.drive.proofs.drive.Drive.go.Goals as goal
 
-pub returns-in-err-check : goal.returns-in-err-check
-returns-in-err-check g c =
+pub returns-in_err-check : goal.returns-in_err-check
+returns-in_err-check g c =
     let d = c.args.self.now in
     let l = g.G.Lattice.grid d.guide in
-    let floor = g.Floor.Lattice.grid (g.C.Carrier.floor c.args.carrier.now) in
+    let floor = g.C.Floor.Lattice.grid (g.C.Carrier.floor c.args.carrier.now) in
     let ground = g.C.Carrier.ground c.args.carrier.now in
     let board = c.args.board.now in
     let With : ℕ → Option Refusal = λ at. call_refusal d Go (record { records = length board; entries = None; at = Some at }) l.size in
-    let p = err_from_is_err_and c.from-residual.result c.from-residual.ensures.1 in
-    let due = ap With (sym c.cell.ensures) ∙ refused_is _ c.in-err-check.field-0.0 c.in-err-check.ensures in
+    let p = err_from_is_err_and c.from_residual.result c.from_residual.ensures.1 in
+    let due = ap With (sym c.cell.ensures) ∙ refused_is _ c.in_err-check.field-0.0 c.in_err-check.ensures in
     rw (p.1, p.2) (record {
       refused = (ap (λ o. or_else o (refuse_if (not (can_step floor ground (pointer_at board d.cell))) StepRefused)) due, refl, refl);
       accepted = tt;
       guide = refl;
       stays = refl;
-      own = λ _ queue. go_refused l (g.G.Guide.aim d.guide) g.M.Measure.scale g.M.Measure.value g.M.Measure.kept d board queue ground c.in-err-check.field-0.0 due;
+      own = λ _ queue. go_refused l (g.G.Guide.aim d.guide) g.M.Measure.scale g.M.Measure.value g.M.Measure.kept d board queue ground c.in_err-check.field-0.0 due;
     })
 
 pub returns-then-not-step : goal.returns-then-not-step
 returns-then-not-step g c =
     let d = c.args.self.now in
     let l = g.G.Lattice.grid d.guide in
-    let floor = g.Floor.Lattice.grid (g.C.Carrier.floor c.args.carrier.now) in
+    let floor = g.C.Floor.Lattice.grid (g.C.Carrier.floor c.args.carrier.now) in
     let ground = g.C.Carrier.ground c.args.carrier.now in
     let board = c.args.board.now in
     let With : ℕ → Option Refusal = λ at. call_refusal d Go (record { records = length board; entries = None; at = Some at }) l.size in
-    let passed = ap With (sym c.cell.ensures) ∙ allowed_is _ c.in-ok-check.ensures in
+    let passed = ap With (sym c.cell.ensures) ∙ allowed_is _ c.in_ok-check.ensures in
     let cannot : can_step floor ground (pointer_at board d.cell) ≡ false = ap (can_step floor ground) (sym c.pointer-direction.ensures) ∙ sym c.if-not-step.ensures.answers in
     record {
       refused = (
@@ -54,11 +54,11 @@ pub returns : goal.returns
 returns g c =
     let d = c.args.self.now in
     let l = g.G.Lattice.grid d.guide in
-    let floor = g.Floor.Lattice.grid (g.C.Carrier.floor c.args.carrier.now) in
+    let floor = g.C.Floor.Lattice.grid (g.C.Carrier.floor c.args.carrier.now) in
     let ground = g.C.Carrier.ground c.args.carrier.now in
     let board = c.args.board.now in
     let With : ℕ → Option Refusal = λ at. call_refusal d Go (record { records = length board; entries = None; at = Some at }) l.size in
-    let passed = ap With (sym c.cell.ensures) ∙ allowed_is _ c.in-ok-check.ensures in
+    let passed = ap With (sym c.cell.ensures) ∙ allowed_is _ c.in_ok-check.ensures in
     let steps : can_step floor ground (pointer_at board d.cell) ≡ true = ap (can_step floor ground) (sym c.pointer-direction.ensures) ∙ sym c.if-not-step.ensures.answers in
     record {
       refused = tt;

@@ -10,39 +10,39 @@ use Rattle.drive.proofs.Refusing.{refused_is, allowed_is, enough}
 use Rattle.drive.proofs.Looking.{same_guide, look_refused, look_accepted}
 use Rattle.drive.proofs.drive.Drive.look.Goals as goal
 
-pub returns-in-err-check : goal.returns-in-err-check
-returns-in-err-check g c =
+pub returns-in_err-check : goal.returns-in_err-check
+returns-in_err-check g c =
     let d = c.args.self.now in
     let l = g.G.Lattice.grid d.guide in
     let With : ℕ → Option Refusal = λ at. call_refusal d Look (record { records = length c.args.board.now; entries = Some (length c.args.queue.now); at = Some at }) l.size in
-    let p = err_from_is_err_and c.from-residual.result c.from-residual.ensures.1 in
-    let due = ap With (sym c.cell.ensures) ∙ refused_is _ c.in-err-check.field-0.0 c.in-err-check.ensures in
+    let p = err_from_is_err_and c.from_residual.result c.from_residual.ensures.1 in
+    let due = ap With (sym c.cell.ensures) ∙ refused_is _ c.in_err-check.field-0.0 c.in_err-check.ensures in
     rw (p.1, p.2) (record {
       refused = (due, refl, refl, refl);
       accepted = tt;
       beyond = refl;
       guide = refl;
-      own = λ _. look_refused l (g.G.Guide.aim d.guide) g.M.Measure.scale g.M.Measure.value g.M.Measure.kept d c.args.board.now c.args.queue.now (g.C.Carrier.ground c.args.carrier.now) c.in-err-check.field-0.0 due;
+      own = λ _. look_refused l (g.G.Guide.aim d.guide) g.M.Measure.scale g.M.Measure.value g.M.Measure.kept d c.args.board.now c.args.queue.now (g.C.Carrier.ground c.args.carrier.now) c.in_err-check.field-0.0 due;
     })
 
-pub slice-bounds-see-end : goal.slice-bounds-see-end
-slice-bounds-see-end g c =
+pub slice_bounds-see-end : goal.slice_bounds-see-end
+slice_bounds-see-end g c =
     let d = c.args.self.now in
-    enough d Look (record { records = length c.args.board.now; entries = Some (length c.args.queue.now); at = Some c.cell.result }) (g.G.Lattice.grid d.guide).size c.size-size.result c.size-size.ensures c.in-ok-check.ensures
+    enough d Look (record { records = length c.args.board.now; entries = Some (length c.args.queue.now); at = Some c.cell.result }) (g.G.Lattice.grid d.guide).size c.size-size.result c.size-size.ensures c.in_ok-check.ensures
 
-pub slice-bounds-see-end-2 : goal.slice-bounds-see-end-2
-slice-bounds-see-end-2 g c =
+pub slice_bounds-see-end-2 : goal.slice_bounds-see-end-2
+slice_bounds-see-end-2 g c =
     let d = c.args.self.now in
-    sym (first_length c.args.board.now c.size-size.result (enough d Look (record { records = length c.args.board.now; entries = Some (length c.args.queue.now); at = Some c.cell.result }) (g.G.Lattice.grid d.guide).size c.size-size.result c.size-size.ensures c.in-ok-check.ensures))
+    sym (first_length c.args.board.now c.size-size.result (enough d Look (record { records = length c.args.board.now; entries = Some (length c.args.queue.now); at = Some c.cell.result }) (g.G.Lattice.grid d.guide).size c.size-size.result c.size-size.ensures c.in_ok-check.ensures))
 
 pub returns : goal.returns
 returns g c =
     let d = c.args.self.now in
     let l = g.G.Lattice.grid d.guide in
     let With : ℕ → Option Refusal = λ at. call_refusal d Look (record { records = length c.args.board.now; entries = Some (length c.args.queue.now); at = Some at }) l.size in
-    let accepts = ap With (sym c.cell.ensures) ∙ allowed_is _ c.in-ok-check.ensures in
+    let accepts = ap With (sym c.cell.ensures) ∙ allowed_is _ c.in_ok-check.ensures in
     let k = c.size-size.result in
-    let long = enough d Look (record { records = length c.args.board.now; entries = Some (length c.args.queue.now); at = Some c.cell.result }) l.size k c.size-size.ensures c.in-ok-check.ensures in
+    let long = enough d Look (record { records = length c.args.board.now; entries = Some (length c.args.queue.now); at = Some c.cell.result }) l.size k c.size-size.ensures c.in_ok-check.ensures in
     let records : length c.see-new.new.board ≡ k = c.see-new.auto.board ∙ first_length c.args.board.now k long in
     record {
       refused = tt;
@@ -50,6 +50,6 @@ returns g c =
       beyond = drop-append-drop k c.args.board.now c.see-new.new.board l.size (omega (arith, c.size-size.ensures)) records;
       guide = same_guide g.M.Measure.scale g.M.Measure.value g.M.Measure.kept (found_more d c.see-new.result) c.see-new.new.self c.see-new.ensures.seen c.see-new.new.board c.args.queue.now c.see-new.new.queue c.see-new.ensures.goes_on;
       own = λ same. look_accepted l (g.G.Guide.aim d.guide) g.M.Measure.scale g.M.Measure.value g.M.Measure.kept d c.args.board.now c.args.queue.now (g.C.Carrier.ground c.args.carrier.now)
-          (g.Floor.Lattice.grid (g.C.Carrier.floor c.args.carrier.now)) k c.feel-felt.result c.see-new.result c.see-new.new.self c.see-new.new.board c.see-new.new.queue
+          (g.C.Floor.Lattice.grid (g.C.Carrier.floor c.args.carrier.now)) k c.feel-felt.result c.see-new.result c.see-new.new.self c.see-new.new.board c.see-new.new.queue
           same c.size-size.ensures c.feel-felt.ensures accepts c.see-new.ensures records c.see-new.auto.queue;
     }

@@ -9,14 +9,14 @@ pub returns : goal.returns
 returns g c =
     let l = g.G.Lattice.grid c.args.self.now.guide in
     let d = c.args.self.now in
-    let marked = c.mark-around.new.board in
-    let seen = c.cut-around.new.board in
+    let marked = c.mark_around.new.board in
+    let seen = c.cut_around.new.board in
     let Cut : ℕ → Type 0 = λ m. Remade (cut_by l d.cell m 8) marked seen in
     record {
-      new = ap ones c.new-bits-fresh.ensures;
+      new = ap ones c.new_bits-fresh.ensures;
       seen = seen;
-      remade = remade_twice _ _ c.args.board.now marked seen c.mark-around.ensures (subst Cut c.new-bits-fresh.ensures c.cut-around.ensures);
+      remade = remade_twice _ _ c.args.board.now marked seen c.mark_around.ensures (subst Cut c.new_bits-fresh.ensures c.cut_around.ensures);
       goes_on =
-          let From : ℕ → Type 0 = λ n. GoesOn g.M.Measure.scale g.M.Measure.value g.M.Measure.kept (record { guide = d.guide; void = d.void; phase = d.phase; cell = d.cell; moves = d.moves; length = d.length; found = n; search = d.search }) c.go-on.new.self seen c.go-on.new.board c.args.queue.now c.go-on.new.queue in
-          subst From c.saturating-add-self.ensures c.go-on.ensures;
+          let From : ℕ → Type 0 = λ n. GoesOn g.M.Measure.scale g.M.Measure.value g.M.Measure.kept (record { guide = d.guide; void = d.void; phase = d.phase; cell = d.cell; moves = d.moves; length = d.length; found = n; search = d.search }) c.go_on.new.self seen c.go_on.new.board c.args.queue.now c.go_on.new.queue in
+          subst From c.saturating_add-self.ensures c.go_on.ensures;
     }

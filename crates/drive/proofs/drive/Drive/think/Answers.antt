@@ -7,38 +7,38 @@ use Rattle.drive.proofs.Refusing.{refused_is, allowed_is, enough}
 use Rattle.drive.proofs.Thinking.{think_refused, think_accepted}
 use Rattle.drive.proofs.drive.Drive.think.Goals as goal
 
-pub returns-in-err-check : goal.returns-in-err-check
-returns-in-err-check g c =
+pub returns-in_err-check : goal.returns-in_err-check
+returns-in_err-check g c =
     let d = c.args.self.now in
     let m = g.M.Measure in
-    let p = err_from_is_err_and c.from-residual.result c.from-residual.ensures.1 in
-    let due = refused_is _ c.in-err-check.field-0.0 c.in-err-check.ensures in
+    let p = err_from_is_err_and c.from_residual.result c.from_residual.ensures.1 in
+    let due = refused_is _ c.in_err-check.field-0.0 c.in_err-check.ensures in
     rw (p.1, p.2) (record {
       refused = (due, refl, refl, refl);
       accepted = tt;
       beyond = refl;
       guide = refl;
-      own = λ ground. think_refused (g.G.Lattice.grid d.guide) (g.G.Guide.aim d.guide) m.scale m.value m.kept d c.args.board.now c.args.queue.now c.args.budget ground c.in-err-check.field-0.0 due;
+      own = λ ground. think_refused (g.G.Lattice.grid d.guide) (g.G.Guide.aim d.guide) m.scale m.value m.kept d c.args.board.now c.args.queue.now c.args.budget ground c.in_err-check.field-0.0 due;
     })
 
-pub slice-bounds-steps-end : goal.slice-bounds-steps-end
-slice-bounds-steps-end g c =
+pub slice_bounds-steps-end : goal.slice_bounds-steps-end
+slice_bounds-steps-end g c =
     let d = c.args.self.now in
-    enough d (Think c.args.budget) (record { records = length c.args.board.now; entries = Some (length c.args.queue.now); at = None }) (g.G.Lattice.grid d.guide).size c.size-size.result c.size-size.ensures c.in-ok-check.ensures
+    enough d (Think c.args.budget) (record { records = length c.args.board.now; entries = Some (length c.args.queue.now); at = None }) (g.G.Lattice.grid d.guide).size c.size-size.result c.size-size.ensures c.in_ok-check.ensures
 
-pub slice-bounds-steps-end-2 : goal.slice-bounds-steps-end-2
-slice-bounds-steps-end-2 g c =
+pub slice_bounds-steps-end-2 : goal.slice_bounds-steps-end-2
+slice_bounds-steps-end-2 g c =
     let d = c.args.self.now in
-    sym (first_length c.args.board.now c.size-size.result (enough d (Think c.args.budget) (record { records = length c.args.board.now; entries = Some (length c.args.queue.now); at = None }) (g.G.Lattice.grid d.guide).size c.size-size.result c.size-size.ensures c.in-ok-check.ensures))
+    sym (first_length c.args.board.now c.size-size.result (enough d (Think c.args.budget) (record { records = length c.args.board.now; entries = Some (length c.args.queue.now); at = None }) (g.G.Lattice.grid d.guide).size c.size-size.result c.size-size.ensures c.in_ok-check.ensures))
 
 pub returns : goal.returns
 returns g c =
     let d = c.args.self.now in
     let m = g.M.Measure in
     let l = g.G.Lattice.grid d.guide in
-    let accepts = allowed_is _ c.in-ok-check.ensures in
+    let accepts = allowed_is _ c.in_ok-check.ensures in
     let k = c.size-size.result in
-    let long = enough d (Think c.args.budget) (record { records = length c.args.board.now; entries = Some (length c.args.queue.now); at = None }) l.size k c.size-size.ensures c.in-ok-check.ensures in
+    let long = enough d (Think c.args.budget) (record { records = length c.args.board.now; entries = Some (length c.args.queue.now); at = None }) l.size k c.size-size.ensures c.in_ok-check.ensures in
     let records = c.steps.auto.board ∙ first_length c.args.board.now k long in
     record {
       refused = tt;

@@ -25,14 +25,14 @@ overflow_add-self c =
     let l = line_text c.in_ok-due.field-0 in
     omega (arith, row_counts s.row s.length l c.in-Row.row (sym c.in_ok-row.ensures ∙ ap Ok c.in-Row.is))
 
-pub returns-in_err-end : goal.returns-in_err-end
-returns-in_err-end c =
+pub returns-in_err-end-in-End : goal.returns-in_err-end-in-End
+returns-in_err-end-in-End c =
     let s = standing c.args.self.now in
     let l = line_text c.in_ok-due.field-0 in
-    let same = handed_on _ _ c.from_residual-in_err-end.ensures.1 in
+    let same = handed_on _ _ c.from_residual-in_err-end-in-End.ensures.1 in
     let closing = ap Ok (sym c.in-End.is) ∙ c.in_ok-row.ensures in
     record {
-      value = same ∙ goes_on s l c.in_ok-due.ensures.line c.in-End.closing closing c.in_ok-due.ensures.number c.due.ensures.rest _ c.in_err-end.ensures;
+      value = same ∙ goes_on s l c.in_ok-due.ensures.line c.in-End.closing closing c.in_ok-due.ensures.number c.due.ensures.rest _ c.in_err-end-in-End.ensures;
       reader = ap (moved_on s) (sym same);
     }
 
@@ -47,14 +47,14 @@ returns-in-Row c =
       reader = λ i. record { heading = s.heading; rest = rest i; line = line i; row = s.row + 1; length = c.in-Row.row.length };
     }
 
-pub returns-in_ok-end : goal.returns-in_ok-end
-returns-in_ok-end c =
+pub returns-in_ok-end-in-End : goal.returns-in_ok-end-in-End
+returns-in_ok-end-in-End c =
     let s = standing c.args.self.now in
     let l = line_text c.in_ok-due.field-0 in
     let rest = c.due.ensures.rest in
     let line = c.in_ok-due.ensures.number in
     let closing = ap Ok (sym c.in-End.is) ∙ c.in_ok-row.ensures in
     record {
-      value = the_end s l c.in_ok-due.ensures.line c.in-End.closing closing line rest c.in_ok-end.ensures;
+      value = the_end s l c.in_ok-due.ensures.line c.in-End.closing closing line rest c.in_ok-end-in-End.ensures;
       reader = λ i. record { heading = s.heading; rest = rest i; line = line i; row = s.row; length = s.length };
     }
