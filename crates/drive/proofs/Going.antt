@@ -7,7 +7,7 @@ use Rattle.model.specs.Lattice.{Lattice, Guide, possible}
 use Rattle.model.specs.Ground.{Ground, cell_at, can_step, lands}
 use Rattle.model.specs.Scale.{Scale}
 use Rattle.model.specs.Plain.{World, State, Answer, refused, moved, go, call, answer, step_onto}
-use Rattle.model.specs.Promise.{Reachable}
+use Rattle.model.specs.Promise.{Reached}
 use Rattle.model.specs.Worlds.{over}
 use Rattle.model.proofs.Basics.Chains.{may}
 use Rattle.model.proofs.Reachable.{Sound, reachable_call, reachable_sound}
@@ -85,8 +85,8 @@ module _ (w : World) {G M : Type 0} (value : M → w.scale.Value) (kept : M → 
       few = λ p. absurd (not_searching (eqb to w.guide.goal) p);
     }
 
-    reached : Reachable w then (calls_after go (moved to) n)
-    reached = let R : State w × Answer → Type 0 = λ r. Reachable w r.0 (calls_after go r.1 n) in subst R go_call (reachable_call w s n own.reached go)
+    reached : Reached w then (calls_after go (moved to) n)
+    reached = let R : State w × Answer → Type 0 = λ r. Reached w r.0 (calls_after go r.1 n) in subst R go_call (reachable_call w s n own.reached go)
 
     module _ (direction cell : ℕ) (ground : Ground) (along : direction ≡ pointer_at m.board d.cell) (landed : ground ≡ lands w.lattice m.ground direction) (onto : cell ≡ ground.at) where
       abbrev d' : Drive G

@@ -5,7 +5,9 @@ pub mod Seeing
 pub mod Memory
 pub mod Searching
 pub mod Owning
+pub mod Narrowing
 pub mod Looking
 pub mod Thinking
 pub mod Going
+pub mod Standing
 pub mod Beginning

@@ -1,9 +1,10 @@
 -- A look does what the plain drive's does.
-use Rattle.std.proofs.Common.{◌≡◌, ℕ, ◌+◌, ◌*◌, ◌<◌, ◌≤◌, Bool, true, false, cond, not, eqb, ltb, List, ◌++◌, length, take, drop, Some, None, sym, refl, ap, ◌∙◌, subst, ⊎_elim, arith, ltb-false, ltb-true}
+use Rattle.std.proofs.Common.{◌≡◌, ℕ, ◌+◌, ◌*◌, ◌<◌, ◌≤◌, Bool, true, false, cond, not, eqb, ltb, List, ◌++◌, length, take, drop, Some, None, sym, refl, ap, ◌∙◌, subst, ⊎_elim, arith, ltb-false, ltb-true, unwrap_or, take-append-drop}
 use lib.Count.{ones}
 use Rattle.std.specs.Option.{option_map}
 use Rattle.std.specs.List.{slice_get}
 use Rattle.std.proofs.lemmas.Option.{slice_get_past}
+use Rattle.model.specs.declared.Phase.{Phase}
 use Rattle.model.specs.declared.Phase.TheVariants as phase
 use Rattle.model.specs.Lattice.{Lattice, Guide, rock_bits}
 use Rattle.model.specs.Ground.{Ground, feels}
@@ -11,29 +12,51 @@ use Rattle.model.specs.Scale.{Scale}
 use Rattle.model.specs.Worlds.{over}
 use Rattle.model.specs.Plain as plain
 use Rattle.model.specs.Plain.{World, State, Answer, refused, felt, look, call, answer, looked, felt_byte, new_rock, kept_pointer}
-use Rattle.model.specs.Promise.{Reachable}
+use Rattle.model.specs.Promise.{Reached}
 use Rattle.model.proofs.Basics.Tests.{decide}
 use Rattle.model.proofs.Reachable.{Sound, reachable_call, reachable_sound}
 use Rattle.model.proofs.Run.ByLook.{looked_as}
 use Rattle.measure.specs.declared.queue.Entry.{Entry}
+use Rattle.measure.specs.Queue.{Added, Pushed}
 use Rattle.board.specs.declared.square.Square.{Square}
-use Rattle.board.specs.Board.{mark_in, pointer_in, mark_at, pointer_at, stage_shown, shown_as}
+use Rattle.board.specs.declared.square.Stage.TheVariants as stage
+use Rattle.board.specs.Board.{changed, with_stage, mark_in, pointer_in, mark_at, pointer_at, stage_shown, shown_as}
 use Rattle.board.specs.Around.{Remade, new_bits_of, seen_square}
 use Rattle.board.proofs.Marking.{mapped_twice}
+use Rattle.reconnect.specs.declared.state.Search.{Search}
 use Rattle.reconnect.specs.Represents.{Represents}
-use Rattle.reconnect.specs.Beginning.{Begins}
+use Rattle.reconnect.specs.Beginning as search
 use Rattle.drive.specs.declared.call.Call.TheVariants.{Look}
 use Rattle.drive.specs.declared.drive.Drive.{Drive}
 use Rattle.drive.specs.declared.refusal.Refusal.{Refusal}
 use Rattle.drive.specs.Refusals.{refusal_number}
 use Rattle.drive.specs.Calls.{phase_refusal}
-use Rattle.drive.specs.Looking.{look_refusal, found_more, turned, GoesOn, Looked}
+use Rattle.drive.specs.Looking.{next_search, look_refusal, found_more, turned, made_ready, made_searching, Begins, GoesOn, Looked}
 use Rattle.drive.specs.Owning.{DriveMemory, Own, calls_after, Agrees}
 use Rattle.drive.proofs.Refusing.{look_phase}
 use Rattle.drive.proofs.Memory.{some_mapped, first_length, first_same, put_length, put_same, on_board}
 use Rattle.drive.proofs.Seeing.{Seen, seen_as, felt_as, count_as}
-use Rattle.drive.proofs.Searching.{square_same, begins_search}
+use Rattle.drive.proofs.Narrowing.{taken_looked}
+use Rattle.drive.proofs.Searching.{pushed_first, square_same, begins_search}
 use Rattle.drive.proofs.Owning.{exactly, few, own_sound, own_refusal, own_queue, own_cell, refuses}
+
+-- a beginning of a search, as the search has it
+begins_again : {G M : Type 0} (scale : Scale) (value : M → scale.Value) (kept : M → ℕ → Type 0) (d d' : Drive G) (board board' : List (Square M)) (queue queue' : List (Entry M)) →
+    d' ≡ made_searching d → Begins scale value kept d.cell (next_search d.search.number) board board' queue queue' →
+    search.Begins scale value kept d.cell (record { search = d.search; board = board; queue = queue }) (record { search = d'.search; board = board'; queue = queue' })
+begins_again scale value kept d d' board board' queue queue' e b =
+    let number = ap (λ z. z.search.number) e in
+    record {
+      zero = b.zero;
+      nought = b.nought;
+      exact = b.exact;
+      number = number;
+      rests = ap (λ z. z.search.walk) e;
+      waits = b.waits ∙ ap (λ n. changed (with_stage n (stage.Waiting b.zero d.cell)) board d.cell) (sym number);
+      pushed = Some 1;
+      queued = b.queued;
+      counted = ap (λ z. z.search.waiting) e;
+    }
 
 -- what is remade twice
 pub remade_twice : {X : Type 0} (f g : ℕ → X → X) (xs ys zs : List X) → Remade f xs ys → Remade g ys zs → Remade (λ a x. g a (f a x)) xs zs
@@ -87,7 +110,7 @@ module _ (w : World) {G M : Type 0} (value : M → w.scale.Value) (kept : M → 
   module _ (unseen : s.phase ≡ phase.Unseen) (byte count : ℕ) (feels : byte ≡ rock_bits w.lattice w.rock here)
       (d' : Drive G) (board' : List (Square M)) (queue' : List (Entry M))
       (done : Looked w.scale value kept w.lattice byte d d' part board' m.queue queue' count)
-      (records : length board' ≡ size) (entries : length queue' ≡ length m.queue) where
+      (records : length board' ≡ size) (entries : length queue' ≡ length m.queue) (rest : List (Square M)) where
     abbrev new : ℕ
     new = new_bits_of w.lattice here byte part
 
@@ -148,7 +171,7 @@ module _ (w : World) {G M : Type 0} (value : M → w.scale.Value) (kept : M → 
         same_record {x} {y} p = cc
 
     -- without one, a search begins
-    begins : Begins w.scale value kept here (record { search = d.search; board = seen; queue = m.queue }) (record { search = d'.search; board = board'; queue = queue' }) →
+    begins : search.Begins w.scale value kept here (record { search = d.search; board = seen; queue = m.queue }) (record { search = d'.search; board = board'; queue = queue' }) →
         Represents w value kept (record { search = d'.search; board = board'; queue = queue' }) (looked_as w s false)
     begins b =
         begins_search w own.fit value kept s (record { search = d.search; board = seen; queue = m.queue }) (record { search = d'.search; board = board'; queue = queue' })
@@ -169,8 +192,9 @@ module _ (w : World) {G M : Type 0} (value : M → w.scale.Value) (kept : M → 
     after true e =
         let b = done.goes_on.searching (ap (λ c. eqb (pointer_at seen c) 0) own.cell ∙ ap (λ p. eqb p 0) points ∙ e) in
         record {
-          drive = b.0;
-          memory = begins (subst (λ c. Begins w.scale value kept c (record { search = d.search; board = seen; queue = m.queue }) (record { search = d'.search; board = board'; queue = queue' })) own.cell b.1);
+          drive = b.0 ∙ ap (turned (found_more d count) phase.Searching) (sym (ap (λ z. z.search) b.0));
+          memory = begins (subst (λ c. search.Begins w.scale value kept c (record { search = d.search; board = seen; queue = m.queue }) (record { search = d'.search; board = board'; queue = queue' })) own.cell
+          (begins_again w.scale value kept (found_more d count) d' seen board' m.queue queue' b.0 b.1));
         }
     after false e =
         let r = done.goes_on.ready (ap (λ c. eqb (pointer_at seen c) 0) own.cell ∙ ap (λ p. eqb p 0) points ∙ e) in
@@ -188,10 +212,10 @@ module _ (w : World) {G M : Type 0} (value : M → w.scale.Value) (kept : M → 
 
     -- the memory after the look
     abbrev left : DriveMemory G M
-    left = record { drive = d'; board = board' ++ drop size m.board; queue = queue'; ground = m.ground }
+    left = record { drive = d'; board = board' ++ rest; queue = queue'; ground = m.ground }
 
-    reached : Reachable w then (calls_after look told n)
-    reached = let R : State w × Answer → Type 0 = λ r. Reachable w r.0 (calls_after look r.1 n) in subst R (look_call w s unseen) (reachable_call w s n own.reached look)
+    reached : Reached w then (calls_after look told n)
+    reached = let R : State w × Answer → Type 0 = λ r. Reached w r.0 (calls_after look r.1 n) in subst R (look_call w s unseen) (reachable_call w s n own.reached look)
 
     owned : After (not (eqb (left_pointer w s) 0)) → Own w value kept left then (calls_after look told n)
     owned a =
@@ -202,8 +226,8 @@ module _ (w : World) {G M : Type 0} (value : M → w.scale.Value) (kept : M → 
           reached = reached;
           rock = own.rock;
           at = own.at;
-          records = put_length m.board size own.records board' records;
-          memory = on_board w value kept d'.search queue' then board' (board' ++ drop size m.board) (put_same m.board size own.records board' records) a.memory;
+          records = put_length size board' records rest;
+          memory = on_board w value kept d'.search queue' then board' (board' ++ rest) (put_same size board' records rest) a.memory;
           begun = ap (λ z. z.void) a.drive ∙ own.begun;
           phase = ap (λ z. z.phase) a.drive;
           cell = ap (λ z. z.cell) a.drive ∙ own.cell;
@@ -233,18 +257,20 @@ module _ (l : Lattice) (aim : Guide) (scale : Scale) {G M : Type 0} (value : M �
   pub look_refused : (e : Refusal) → look_refusal d board queue l ground ≡ Some e → Agrees l aim scale value kept look (refused (refusal_number e)) before before
   look_refused e due start s n own = refuses (over l start aim scale) value kept before s n own Look e (sym (by_phase start s n own) ∙ due)
 
-  pub look_accepted : (floor : Lattice) (k byte count : ℕ) (d' : Drive G) (board' : List (Square M)) (queue' : List (Entry M)) →
-      l ≡ floor → k ≡ l.size → byte ≡ feels floor ground → look_refusal d board queue l ground ≡ None →
-      Looked scale value kept l byte d d' (take k board) board' queue queue' count → length board' ≡ k → length queue' ≡ length queue →
-      Agrees l aim scale value kept look (felt byte count) before (record { drive = d'; board = board' ++ drop k board; queue = queue'; ground = ground })
-  look_accepted floor k byte count d' board' queue' same cells feels ok done records entries start s n own =
+  pub look_accepted : (floor : Lattice) (byte count : ℕ) (d' : Drive G) (board' : List (Square M)) (queue' : List (Entry M)) →
+      l ≡ floor → byte ≡ feels floor ground → look_refusal d board queue l ground ≡ None →
+      Looked scale value kept l byte d d' board board' queue queue' count → length board' ≡ length board → length queue' ≡ length queue →
+      Agrees l aim scale value kept look (felt byte count) before (record { drive = d'; board = board'; queue = queue'; ground = ground })
+  look_accepted floor byte count d' board' queue' same feels ok done records entries start s n own =
       let w = over l start aim scale in
-      let After : ℕ → Type 0 = λ c.
+      let After : List (Square M) → Type 0 = λ xs.
       (felt byte count ≡ (call w s look).1)
-      × Own w value kept (record { drive = d'; board = board' ++ drop c board; queue = queue'; ground = ground }) (call w s look).0 (calls_after look (call w s look).1 n) in
+      × Own w value kept (record { drive = d'; board = xs; queue = queue'; ground = ground }) (call w s look).0 (calls_after look (call w s look).1 n) in
       let felt-here : byte ≡ rock_bits l start.rock s.cell =
       feels ∙ ap (λ g. rock_bits g ground.rock ground.at) (sym same) ∙ ap (λ r. rock_bits l r ground.at) own.rock ∙ ap (rock_bits l start.rock) own.at in
-      subst After (sym cells) (
-      look_agrees w value kept before s n own (look_phase s.phase (sym (by_phase start s n own) ∙ ok)) byte count felt-here d' board' queue'
-      (subst (λ c. Looked scale value kept l byte d d' (take c board) board' queue queue' count) cells done) (records ∙ cells) entries
+      let inside : d.cell < l.size = omega (arith, own.cell, (own_sound w value kept before s n own).inside) in
+      let long : length (take l.size board') ≡ l.size = first_length board' l.size (omega (arith, own.records, records)) in
+      subst After (take-append-drop l.size board') (
+      look_agrees w value kept before s n own (look_phase s.phase (sym (by_phase start s n own) ∙ ok)) byte count felt-here d' (take l.size board') queue'
+      (taken_looked l own.fit.lattice scale value kept byte d d' board board' queue queue' count inside done) long entries (drop l.size board')
       )

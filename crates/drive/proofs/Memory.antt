@@ -24,12 +24,13 @@ module _ {X : Type 0} (xs : List X) (n : ℕ) (long : n ≤ length xs) where
   pub first_same : (a : ℕ) → a < n → slice_get (take n xs) a ≡ slice_get xs a
   first_same a h = sym (nth_left (take n xs) (drop n xs) a (omega (arith, first_length))) ∙ ap (λ ys. slice_get ys a) (take-append-drop n xs)
 
-  -- others in their place
-  pub put_length : (ys : List X) → length ys ≡ n → n ≤ length (ys ++ drop n xs)
-  put_length ys e = omega (arith, length-append ys (drop n xs))
+-- others in front
+module _ {X : Type 0} (n : ℕ) (ys : List X) (long : length ys ≡ n) (rest : List X) where
+  pub put_length : n ≤ length (ys ++ rest)
+  put_length = omega (arith, length-append ys rest)
 
-  pub put_same : (ys : List X) → length ys ≡ n → (a : ℕ) → a < n → slice_get (ys ++ drop n xs) a ≡ slice_get ys a
-  put_same ys e a h = nth_left ys (drop n xs) a (omega arith)
+  pub put_same : (a : ℕ) → a < n → slice_get (ys ++ rest) a ≡ slice_get ys a
+  put_same a h = nth_left ys rest a (omega arith)
 
 module _ (w : World) {M : Type 0} (value : M → w.scale.Value) (kept : M → ℕ → Type 0) (search : Search) (queue : List (Entry M)) (s : State w) where
   abbrev memory : List (Square M) → Memory M

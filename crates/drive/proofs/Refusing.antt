@@ -1,5 +1,5 @@
 -- When a call is refused, and that the plain drive refuses it too.
-use Rattle.std.proofs.Common.{◌≡◌, ℕ, zero, suc, ◌≤◌, Bool, true, false, ltb, Some, None, Ok, Err, Option, sym, refl, ap, ◌∙◌, arith, ltb-false, le-ltb}
+use Rattle.std.proofs.Common.{◌≡◌, ℕ, zero, suc, ◌+◌, ◌*◌, ◌<◌, ◌≤◌, Bool, true, false, ltb, Some, None, Ok, Err, Option, sym, refl, ap, ◌∙◌, arith, ltb-false, le-ltb}
 use lib.Dec.{eqb-suc-zero}
 use Rattle.model.specs.declared.Phase.{Phase}
 use Rattle.model.specs.declared.Phase.TheVariants as phase
@@ -70,6 +70,14 @@ module _ {G : Type 0} (d : Drive G) (k : Call) (lent : Lent) (size : ℕ) where
   enough cells e ok =
       let behind-void = later_none d.void _ (allowed_is _ ok) in
       omega (arith, ltb-false lent.records size (not_if (ltb lent.records size) ShortBoard (first_none _ _ behind-void)))
+
+  -- a call that is lent a queue is accepted only if the queue has room
+  pub has_room : (entries : ℕ) → lent.entries ≡ Some entries → Ok tt ≡ allowed (call_refusal d k lent size) → 0 < entries
+  has_room entries e ok =
+      let behind-void = later_none d.void _ (allowed_is _ ok) in
+      let behind-board = later_none (refuse_if (ltb lent.records size) ShortBoard) _ behind-void in
+      let room = not_if (queue_is_short lent.entries size) ShortQueue (first_none _ _ behind-board) in
+      omega (arith, ltb-false entries (8 * size + 1) (ap (λ o. queue_is_short o size) (sym e) ∙ room))
 
 -- a call that is not of its phase, or a think of no steps: the plain drive refuses it with the same number, and stays as it is
 module _ (w : World) (s : State w) where

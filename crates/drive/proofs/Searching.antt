@@ -21,7 +21,7 @@ use Rattle.reconnect.specs.Represents.{Memory, walk_shown, Represents}
 use Rattle.reconnect.specs.Beginning.{Begins}
 
 -- an entry that is put into an empty queue, which has room, is its only one
-pushed_first : {M : Type 0} (s : Scale) (value : M → s.Value) (xs ys : List (Entry M)) (e : Entry M) (r : Option ℕ) →
+pub pushed_first : {M : Type 0} (s : Scale) (value : M → s.Value) (xs ys : List (Entry M)) (e : Entry M) (r : Option ℕ) →
     0 < length xs → Pushed s value xs 0 e ys r → (unwrap_or r 0 ≡ 1) × Added s value xs 0 e ys 1
 pushed_first s value xs ys e None room p = absurd (let h = p.0 in omega arith)
 pushed_first s value xs ys e (Some n) room p =
@@ -109,7 +109,7 @@ module _ (w : World) (fit : Fit w) {M : Type 0} (value : M → w.scale.Value) (k
         changed_board : (Square M → Square M) → List (Square M)
         changed_board f = changed f before.board here
 
-    shown_stage_now : (t : Bool) → stage_shown value (cond t (stage.Waiting b.zero here) stage.Idle) ≡ cond t (plain.waiting w.scale.zero here) plain.idle
+    shown_stage_now : (t : Bool) → stage_shown value (cond t (stage.Waiting b.zero here) stage.Idle) ≡ cond t (plain.waiting w.scale.none here) plain.idle
     shown_stage_now true = ap (λ v. plain.waiting v here) b.nought
     shown_stage_now false = refl
 
@@ -136,11 +136,11 @@ module _ (w : World) (fit : Fit w) {M : Type 0} (value : M → w.scale.Value) (k
     one : after.search.waiting ≡ 1
     one = b.counted ∙ first.0
 
-    home : (then.squares here).stage ≡ plain.waiting w.scale.zero here
-    home = ap (λ t. cond t (plain.waiting w.scale.zero here) plain.idle) (eq-eqb here here refl)
+    home : (then.squares here).stage ≡ plain.waiting w.scale.none here
+    home = ap (λ t. cond t (plain.waiting w.scale.none here) plain.idle) (eq-eqb here here refl)
 
-    zero_least : w.scale.at_most w.scale.zero (value b.zero) ≡ true
-    zero_least = subst (λ v. w.scale.at_most w.scale.zero v ≡ true) (sym b.nought) (⊎_elim (λ e. e) (λ e. e) (fit.scale.either w.scale.zero w.scale.zero))
+    zero_least : w.scale.at_most w.scale.none (value b.zero) ≡ true
+    zero_least = subst (λ v. w.scale.at_most w.scale.none v ≡ true) (sym b.nought) (⊎_elim (λ e. e) (λ e. e) (fit.scale.either w.scale.none w.scale.none))
 
     abbrev Found : ℕ → w.scale.Value → Type 0
     Found a v = (e : Entry M) × Has (take 1 after.queue) e × (e.cell ≡ a) × (value e.value ≡ v)
@@ -153,7 +153,7 @@ module _ (w : World) (fit : Fit w) {M : Type 0} (value : M → w.scale.Value) (k
         sym e,
         b.nought ∙ same_value (sym home ∙ ap (λ x. (then.squares x).stage) (sym e) ∙ q),
       )
-      | no e ↦ absurd (never (sym (ap (λ t. cond t (plain.waiting w.scale.zero here) plain.idle) (ne_eqb a here e)) ∙ q))
+      | no e ↦ absurd (never (sym (ap (λ t. cond t (plain.waiting w.scale.none here) plain.idle) (ne_eqb a here e)) ∙ q))
     ]
       where
         same_value : {u : w.scale.Value} {d : ℕ} → plain.waiting u d ≡ plain.waiting v c → u ≡ v

@@ -6,7 +6,7 @@ use Rattle.model.specs.Lattice.{Lattice, Guide}
 use Rattle.model.specs.Ground.{Ground}
 use Rattle.model.specs.Scale.{Scale}
 use Rattle.model.specs.Plain.{World, State, Walk, Course, going, join, close, Answer, refused, felt, spent, joined, shut, moved, told, think, call, answer, think_step, thought}
-use Rattle.model.specs.Promise.{Fit, Reachable}
+use Rattle.model.specs.Promise.{Fit, Reached}
 use Rattle.model.specs.Worlds.{over}
 use Rattle.model.proofs.Search.Steps.{Step, step, none_waits, takes, joins, stops, walks}
 use Rattle.model.proofs.Run.ByThink.{thought_on, thought_joins, thought_closes}
@@ -24,7 +24,7 @@ use Rattle.drive.specs.declared.think.Thought.{Thought}
 use Rattle.drive.specs.declared.think.Thought.TheVariants as came
 use Rattle.drive.specs.Refusals.{refusal_number}
 use Rattle.drive.specs.Calls.{phase_refusal}
-use Rattle.drive.specs.Answers.{thought-answer}
+use Rattle.drive.specs.Answers.{thought_answer}
 use Rattle.drive.specs.Looking.{turned}
 use Rattle.drive.specs.Owning.{DriveMemory, Own, calls_after, Agrees}
 use Rattle.drive.specs.Thinking.{think_refusal, phase_after, ThinksAs}
@@ -118,19 +118,19 @@ module _ (w : World) where
   think_call s p n = ap (λ z. answer w s z (think (suc n))) p
 
   -- the state after steps that were spent is one that calls leave
-  spent_reached : (s : State w) (n : ℕ) → Reachable w s n → s.phase ≡ phase.Searching → (i : ℕ) (t : State w) → thought w i 0 s ≡ (t, spent i) → (m : ℕ) × Reachable w t m
+  spent_reached : (s : State w) (n : ℕ) → Reached w s n → s.phase ≡ phase.Searching → (i : ℕ) (t : State w) → thought w i 0 s ≡ (t, spent i) → (m : ℕ) × Reached w t m
   unfolding thought
-  spent_reached s n h p zero t e = (n, subst (λ z. Reachable w z n) (ap (λ r. r.0) e) h)
+  spent_reached s n h p zero t e = (n, subst (λ z. Reached w z n) (ap (λ r. r.0) e) h)
   spent_reached s n h p (suc i) t e =
       let m : ℕ = calls_after (think (suc i)) (call w s (think (suc i))).1 n in
-      (m, subst (λ z. Reachable w z m) (ap (λ r. r.0) (think_call s p i ∙ e)) (reachable_call w s n h (think (suc i))))
+      (m, subst (λ z. Reached w z m) (ap (λ r. r.0) (think_call s p i ∙ e)) (reachable_call w s n h (think (suc i))))
 
 module _ (l : Lattice) (aim : Guide) (scale : Scale) {M : Type 0} (value : M → scale.Value) (kept : M → ℕ → Type 0) (home : ℕ) where
   -- some steps are done, and the search goes on
   abbrev pub Underway : ℕ → Memory M → Memory M → Type 0
   Underway done before now =
       (ground : Ground) (s : State (over l ground aim scale)) (n : ℕ) →
-      Fit (over l ground aim scale) → Reachable (over l ground aim scale) s n → s.phase ≡ phase.Searching → s.cell ≡ home →
+      Fit (over l ground aim scale) → Reached (over l ground aim scale) s n → s.phase ≡ phase.Searching → s.cell ≡ home →
       Represents (over l ground aim scale) value kept before s →
       (t : State (over l ground aim scale)) × (thought (over l ground aim scale) done 0 s ≡ (t, spent done)) × Represents (over l ground aim scale) value kept now t
 
@@ -145,7 +145,7 @@ module _ (l : Lattice) (aim : Guide) (scale : Scale) {M : Type 0} (value : M →
       (sym (ap (λ z. z.1) t.1), subst (λ z. Represents w value kept now z.0) (sym t.1) t.2)
 
   module _ (done : ℕ) (before now next : Memory M) (u : Underway done before now) (ground : Ground) (s : State (over l ground aim scale)) (n : ℕ)
-      (fit : Fit (over l ground aim scale)) (h : Reachable (over l ground aim scale) s n) (p : s.phase ≡ phase.Searching) (c : s.cell ≡ home) (r : Represents (over l ground aim scale) value kept before s) where
+      (fit : Fit (over l ground aim scale)) (h : Reached (over l ground aim scale) s n) (p : s.phase ≡ phase.Searching) (c : s.cell ≡ home) (r : Represents (over l ground aim scale) value kept before s) where
     abbrev w : World
     w = over l ground aim scale
 
@@ -202,7 +202,7 @@ module _ (l : Lattice) (aim : Guide) (scale : Scale) {M : Type 0} (value : M →
       (sym (ap (λ z. z.1) all), subst (λ z. Represents w value kept next z.0) (sym all) one.1)
 
 -- the phase by the answer, and by what the steps came to
-phase_same : (w : World) (done : ℕ) (t : Thought) → answer_phase w (thought-answer done t) ≡ phase_after phase.Searching t
+phase_same : (w : World) (done : ℕ) (t : Thought) → answer_phase w (thought_answer done t) ≡ phase_after phase.Searching t
 phase_same w done came.Spent = refl
 phase_same w done (came.Joined x y) = refl
 phase_same w done came.Shut = refl
@@ -237,7 +237,7 @@ module _ (l : Lattice) (aim : Guide) (scale : Scale) {G M : Type 0} (value : M �
       long : k ≤ length board
       long = omega (arith, cells, own.records)
 
-      came_to : (thought-answer done t ≡ (thought world budget 0 s).1) × Represents world value kept (record { search = d'.search; board = board'; queue = queue' }) (thought world budget 0 s).0
+      came_to : (thought_answer done t ≡ (thought world budget 0 s).1) × Represents world value kept (record { search = d'.search; board = board'; queue = queue' }) (thought world budget 0 s).0
       came_to =
           thinks start s n own.fit own.reached searching (sym own.cell) (
           on_board world value kept d.search queue s board (take k board) (λ a h. first_same board k long a (omega arith)) own.memory
@@ -251,14 +251,14 @@ module _ (l : Lattice) (aim : Guide) (scale : Scale) {G M : Type 0} (value : M �
       owned : Own world value kept after (thought world budget 0 s).0 (calls_after (think budget) (thought world budget 0 s).1 n)
       owned =
           let stays = thought_left world budget 0 s searching in
-          let Reached : State world × Answer → Type 0 = λ r. Reachable world r.0 (calls_after (think budget) r.1 n) in
+          let R : State world × Answer → Type 0 = λ r. Reached world r.0 (calls_after (think budget) r.1 n) in
           record {
             fit = own.fit;
-            reached = subst Reached as_called (reachable_call world s n own.reached (think budget));
+            reached = subst R as_called (reachable_call world s n own.reached (think budget));
             rock = own.rock;
             at = own.at ∙ sym stays.same.cell;
-            records = subst (λ c. c ≤ length (board' ++ drop k board)) cells (put_length board k long board' records);
-            memory = on_board world value kept d'.search queue' (thought world budget 0 s).0 board' (board' ++ drop k board) (λ a h. put_same board k long board' records a (omega arith)) came_to.1;
+            records = subst (λ c. c ≤ length (board' ++ drop k board)) cells (put_length k board' records (drop k board));
+            memory = on_board world value kept d'.search queue' (thought world budget 0 s).0 board' (board' ++ drop k board) (λ a h. put_same k board' records (drop k board) a (omega arith)) came_to.1;
             begun = ap (λ z. z.void) left ∙ own.begun;
             phase =
                 ap (λ z. z.phase) left ∙ ap (λ p. phase_after p t) (own.phase ∙ searching) ∙ sym (phase_same world done t) ∙ ap (answer_phase world) came_to.0 ∙ sym stays.phase;
@@ -268,7 +268,7 @@ module _ (l : Lattice) (aim : Guide) (scale : Scale) {G M : Type 0} (value : M �
             found = ap (λ z. z.found) left ∙ own.found ∙ sym stays.same.found;
           }
 
-    pub think_accepted : Agrees l aim scale value kept (think budget) (thought-answer done t) before after
+    pub think_accepted : Agrees l aim scale value kept (think budget) (thought_answer done t) before after
     think_accepted start s n own =
         let Owns : State (over l start aim scale) × Answer → Type 0 = λ r. Own (over l start aim scale) value kept after r.0 (calls_after (think budget) r.1 n) in
         ((came_to start s n own).0 ∙ sym (ap (λ r. r.1) (as_called start s n own)), subst Owns (sym (as_called start s n own)) (owned start s n own))

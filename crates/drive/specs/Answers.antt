@@ -8,25 +8,25 @@ use Rattle.drive.specs.declared.think.Thought.TheVariants.{Spent, Joined, Shut}
 use Rattle.drive.specs.Refusals.{refusal_number}
 
 -- look: the felt byte, and the count of newly found rock
-abbrev pub look-answer : Result (ℕ × ℕ) Refusal → Answer
-look-answer (Ok r) = felt r.0 r.1
-look-answer (Err e) = refused (refusal_number e)
+abbrev pub look_answer : Result (ℕ × ℕ) Refusal → Answer
+look_answer (Ok r) = felt r.0 r.1
+look_answer (Err e) = refused (refusal_number e)
 
 -- think: the steps done, with what they came to
-abbrev pub thought-answer : ℕ → Thought → Answer
-thought-answer done Spent = spent done
-thought-answer done (Joined x y) = joined done x y
-thought-answer done Shut = shut done
+abbrev pub thought_answer : ℕ → Thought → Answer
+thought_answer done Spent = spent done
+thought_answer done (Joined x y) = joined done x y
+thought_answer done Shut = shut done
 
-abbrev pub think-answer : Result (ℕ × Thought) Refusal → Answer
-think-answer (Ok r) = thought-answer r.0 r.1
-think-answer (Err e) = refused (refusal_number e)
+abbrev pub think_answer : Result (ℕ × Thought) Refusal → Answer
+think_answer (Ok r) = thought_answer r.0 r.1
+think_answer (Err e) = refused (refusal_number e)
 
 -- go: the cell
-abbrev pub go-answer : Result ℕ Refusal → Answer
-go-answer (Ok cell) = moved cell
-go-answer (Err e) = refused (refusal_number e)
+abbrev pub go_answer : Result ℕ Refusal → Answer
+go_answer (Ok cell) = moved cell
+go_answer (Err e) = refused (refusal_number e)
 
 -- tell: the six numbers
-abbrev pub tell-answer : Told → Answer
-tell-answer t = told (phase_number t.phase) t.cell t.moves t.length t.found t.searches
+abbrev pub tell_answer : Told → Answer
+tell_answer t = told (phase_number t.phase) t.cell t.moves t.length t.found t.searches

@@ -1,12 +1,15 @@
 -- What vet answers and begin leaves.
 use Rattle.std.specs.Prelude.{◌≡◌, ℕ, ◌+◌, ◌*◌, ◌<◌, cond, List, drop, Some, None, Ok, Err, Option, Result, ◌==◌, nat_le, nat_lt}
+use Rattle.std.specs.Option.{option_map}
 use Rattle.std.specs.List.{slice_get}
 use Rattle.model.specs.declared.Mark.TheVariants as mark
 use Rattle.model.specs.declared.Phase.{Phase}
 use Rattle.model.specs.declared.Phase.TheVariants as phase
 use Rattle.model.specs.Lattice.{Lattice, Guide, lead}
+use Rattle.model.specs.Plain.{World, State, resting}
 use Rattle.board.specs.declared.square.Square.{Square}
 use Rattle.board.specs.declared.square.Stage.TheVariants as stage
+use Rattle.board.specs.Board.{shown_as}
 use Rattle.reconnect.specs.Beginning.{unbegun}
 use Rattle.drive.specs.declared.drive.Drive.{Drive}
 use Rattle.drive.specs.declared.refusal.Refusal.{Refusal}
@@ -55,3 +58,14 @@ fresh_square l g start a = record {
 pub record Laid {M : Type 0} (l : Lattice) (g : Guide) (start n : ℕ) (before after : List (Square M)) : Type 0 where
   pub fresh : (a : ℕ) → a < n → slice_get after a ≡ Some (fresh_square l g start a)
   pub beyond : drop n after ≡ drop n before
+
+-- a drive and a board stand for a state of the plain drive at rest: its numbers, and the record of each cell
+pub record Stands (w : World) {G M : Type 0} (value : M → w.scale.Value) (d : Drive G) (board : List (Square M)) (s : State w) : Type 0 where
+  pub phase : d.phase ≡ s.phase
+  pub cell : d.cell ≡ s.cell
+  pub moves : d.moves ≡ s.moves
+  pub length : d.length ≡ s.length
+  pub found : d.found ≡ s.found
+  pub searches : d.search.number ≡ s.searches
+  pub resting : s.walk ≡ resting
+  pub squares : (a : ℕ) → a < w.lattice.size → option_map (shown_as value d.search.number) (slice_get board a) ≡ Some (s.squares a)

@@ -1,8 +1,8 @@
 -- When go is refused, and what it leaves.
-use Rattle.std.specs.Prelude.{ℕ, ◌+◌, min, cond, not, List, length, Some, None, Option, ◌==◌}
+use Rattle.std.specs.Prelude.{◌≡◌, ℕ, ◌+◌, min, cond, not, List, length, Some, None, Option, ◌==◌}
 use Rattle.model.specs.declared.Phase.TheVariants as phase
 use Rattle.model.specs.Lattice.{Lattice}
-use Rattle.model.specs.Ground.{Ground, can_step}
+use Rattle.model.specs.Ground.{Ground, can_step, lands}
 use Rattle.board.specs.declared.square.Square.{Square}
 use Rattle.board.specs.Board.{pointer_at}
 use Rattle.drive.specs.declared.call.Call.TheVariants.{Go}
@@ -15,11 +15,21 @@ use Rattle.drive.specs.Calls.{or_else, refuse_if, call_refusal}
 abbrev pub counted : ℕ → ℕ → ℕ
 counted n k = min (n + k) 4294967295
 
--- the first refusal of go, by the guide's lattice, and the carrier's lattice and ground
-abbrev pub go_refusal : {G M : Type 0} → Drive G → List (Square M) → Lattice → Lattice → Ground → Option Refusal
-go_refusal d board guide floor ground =
-    or_else (call_refusal d Go (record { records = length board; entries = None; at = Some ground.at }) guide.size)
-    (refuse_if (not (can_step floor ground (pointer_at board d.cell))) StepRefused)
+module _ {G M : Type 0} (d : Drive G) (board : List (Square M)) where
+  -- the direction in which go steps
+  abbrev pub onward : ℕ
+  onward = pointer_at board d.cell
+
+  -- the first refusal of go, by the guide's lattice, and the carrier's lattice and ground
+  abbrev pub go_refusal : Lattice → Lattice → Ground → Option Refusal
+  go_refusal guide floor ground =
+      or_else (call_refusal d Go (record { records = length board; entries = None; at = Some ground.at }) guide.size)
+      (refuse_if (not (can_step floor ground onward)) StepRefused)
+
+  -- the carrier made that step, onto the cell
+  pub record Stepped (floor : Lattice) (before after : Ground) (cell : ℕ) : Type 0 where
+    pub landed : after ≡ lands floor before onward
+    pub onto : cell ≡ after.at
 
 -- a drive after a move onto a cell, at a cost
 abbrev pub moved_to : {G : Type 0} → Drive G → (cell cost goal : ℕ) → Drive G

@@ -4,7 +4,7 @@ use Rattle.model.specs.Lattice.{Lattice, Guide}
 use Rattle.model.specs.Ground.{Ground}
 use Rattle.model.specs.Scale.{Scale}
 use Rattle.model.specs.Plain.{World, State, Call, Answer, call}
-use Rattle.model.specs.Promise.{Fit, Reachable, accepted, acts}
+use Rattle.model.specs.Promise.{Fit, Reached, accepted, acts}
 use Rattle.model.specs.Worlds.{over}
 use Rattle.measure.specs.declared.queue.Entry.{Entry}
 use Rattle.board.specs.declared.square.Square.{Square}
@@ -22,7 +22,7 @@ pub record DriveMemory (G M : Type 0) : Type 0 where
 -- drive and carrier are as the state has them, and board and queue hold its records and its search
 pub record Own (w : World) {G M : Type 0} (value : M → w.scale.Value) (kept : M → ℕ → Type 0) (m : DriveMemory G M) (s : State w) (n : ℕ) : Type 0 where
   pub fit : Fit w
-  pub reached : Reachable w s n
+  pub reached : Reached w s n
   pub rock : m.ground.rock ≡ w.rock
   pub at : m.ground.at ≡ s.cell
   pub records : w.lattice.size ≤ length m.board

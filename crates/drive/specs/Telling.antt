@@ -1,6 +1,7 @@
 -- What tell answers.
 use Rattle.model.specs.declared.Phase.{Phase}
 use Rattle.model.specs.declared.Phase.TheVariants as phase
+use Rattle.model.specs.Plain.{Answer, told, phase_number}
 use Rattle.drive.specs.declared.drive.Drive.{Drive}
 use Rattle.drive.specs.declared.tell.Told.{Told}
 
@@ -19,3 +20,7 @@ telling_in phase.Void d = record { phase = phase.Void; cell = 0; moves = 0; leng
 
 abbrev pub telling : {G : Type 0} → Drive G → Told
 telling d = telling_in d.phase d
+
+-- the six numbers as the plain drive answers them
+abbrev pub told_numbers : Told → Answer
+told_numbers t = told (phase_number t.phase) t.cell t.moves t.length t.found t.searches

@@ -6,7 +6,7 @@ use Rattle.model.specs.Lattice.{Lattice, Guide}
 use Rattle.model.specs.Ground.{Ground}
 use Rattle.model.specs.Scale.{Scale}
 use Rattle.model.specs.Plain.{State, thought}
-use Rattle.model.specs.Promise.{Fit, Reachable}
+use Rattle.model.specs.Promise.{Fit, Reached}
 use Rattle.model.specs.Worlds.{over}
 use Rattle.measure.specs.declared.queue.Entry.{Entry}
 use Rattle.board.specs.declared.square.Square.{Square}
@@ -16,7 +16,7 @@ use Rattle.drive.specs.declared.drive.Drive.{Drive}
 use Rattle.drive.specs.declared.refusal.Refusal.{Refusal}
 use Rattle.drive.specs.declared.think.Thought.{Thought}
 use Rattle.drive.specs.declared.think.Thought.TheVariants.{Spent, Joined, Shut}
-use Rattle.drive.specs.Answers.{thought-answer}
+use Rattle.drive.specs.Answers.{thought_answer}
 use Rattle.drive.specs.Calls.{call_refusal}
 
 -- the first refusal of a think, by the board, the queue, the steps and the guide's lattice
@@ -34,7 +34,7 @@ phase_after p Shut = phase.Shut
 abbrev pub ThinksAs : (l : Lattice) (aim : Guide) (scale : Scale) {M : Type 0} (value : M → scale.Value) (kept : M → ℕ → Type 0) → (home budget done : ℕ) → Thought → (before after : Memory M) → Type 0
 ThinksAs l aim scale value kept home budget done t before after =
     (ground : Ground) (s : State (over l ground aim scale)) (n : ℕ) →
-    Fit (over l ground aim scale) → Reachable (over l ground aim scale) s n → s.phase ≡ phase.Searching → s.cell ≡ home →
+    Fit (over l ground aim scale) → Reached (over l ground aim scale) s n → s.phase ≡ phase.Searching → s.cell ≡ home →
     Represents (over l ground aim scale) value kept before s →
-    (thought-answer done t ≡ (thought (over l ground aim scale) budget 0 s).1)
+    (thought_answer done t ≡ (thought (over l ground aim scale) budget 0 s).1)
     × Represents (over l ground aim scale) value kept after (thought (over l ground aim scale) budget 0 s).0

@@ -1,9 +1,10 @@
 // A step of the carrier along the pointer of its cell.
-ghost use Rattle.std.specs.Prelude.{◌≡◌, List, IfErr, Some, None, OnOk};
+ghost use Rattle.std.specs.Prelude.{◌≡◌, List, IfOk, IfErr, Some, None};
 ghost use Rattle.model.specs.Plain.{go};
 ghost use Rattle.measure.specs.declared.queue.Entry.{Entry};
-ghost use Rattle.drive.specs.Answers.{go-answer};
-ghost use Rattle.drive.specs.Going.{go_refusal, moved_to};
+ghost use Rattle.drive.specs.Answers.{go_answer};
+ghost use Rattle.board.specs.Board.{pointer_at};
+ghost use Rattle.drive.specs.Going.{go_refusal, Stepped, moved_to};
 ghost use Rattle.drive.specs.Owning.{DriveMemory, Agrees};
 
 use crate::call::{Call, Lent};
@@ -23,10 +24,10 @@ impl<G: Guide> Drive<G> {
         board: &[Square<M>],
     ) -> Result<u32, Refusal>
         ensures refused { IfErr result (λ e. (go_refusal self.old board.now (G.Lattice.grid self.old.guide) (C.Floor.Lattice.grid (C.Carrier.floor carrier.old)) (C.Carrier.ground carrier.old) ≡ Some e) × (self.new ≡ self.old) × (carrier.new ≡ carrier.old)) }
-        ensures accepted { OnOk result (go_refusal self.old board.now (G.Lattice.grid self.old.guide) (C.Floor.Lattice.grid (C.Carrier.floor carrier.old)) (C.Carrier.ground carrier.old) ≡ None) }
+        ensures accepted { IfOk result (λ cell. (go_refusal self.old board.now (G.Lattice.grid self.old.guide) (C.Floor.Lattice.grid (C.Carrier.floor carrier.old)) (C.Carrier.ground carrier.old) ≡ None) × Stepped self.old board.now (C.Floor.Lattice.grid (C.Carrier.floor carrier.old)) (C.Carrier.ground carrier.old) (C.Carrier.ground carrier.new) cell × (self.new ≡ moved_to self.old cell ((G.Lattice.grid self.old.guide).cost (pointer_at board.now self.old.cell)) (G.Guide.aim self.old.guide).goal)) }
         ensures guide { self.new.guide ≡ self.old.guide }
         ensures stays { C.Carrier.floor carrier.new ≡ C.Carrier.floor carrier.old }
-        ensures own { G.Lattice.grid self.old.guide ≡ C.Floor.Lattice.grid (C.Carrier.floor carrier.old) → (queue : List (Entry M)) → Agrees (G.Lattice.grid self.old.guide) (G.Guide.aim self.old.guide) M.Measure.scale M.Measure.value M.Measure.kept go (go-answer result) (record { drive = self.old; board = board.now; queue = queue; ground = C.Carrier.ground carrier.old }) (record { drive = self.new; board = board.now; queue = queue; ground = C.Carrier.ground carrier.new }) }
+        ensures own { G.Lattice.grid self.old.guide ≡ C.Floor.Lattice.grid (C.Carrier.floor carrier.old) → (queue : List (Entry M)) → Agrees (G.Lattice.grid self.old.guide) (G.Guide.aim self.old.guide) M.Measure.scale M.Measure.value M.Measure.kept go (go_answer result) (record { drive = self.old; board = board.now; queue = queue; ground = C.Carrier.ground carrier.old }) (record { drive = self.new; board = board.now; queue = queue; ground = C.Carrier.ground carrier.new }) }
     {
         let lent = Lent {
             records: board.len(),

@@ -1,7 +1,8 @@
 // Feeling the neighbours of the carrier's cell.
-ghost use Rattle.std.specs.Prelude.{◌≡◌, drop, IfErr, Some, None, OnOk};
+ghost use Rattle.std.specs.Prelude.{◌≡◌, ◌<◌, length, IfOk, IfErr, Some, None};
+ghost use Rattle.model.specs.Ground.{feels};
 ghost use Rattle.model.specs.Plain.{look};
-ghost use Rattle.drive.specs.Answers.{look-answer};
+ghost use Rattle.drive.specs.Answers.{look_answer};
 ghost use Rattle.drive.specs.Looking.{look_refusal, GoesOn, Looked};
 ghost use Rattle.drive.specs.Owning.{DriveMemory, Agrees};
 
@@ -26,10 +27,9 @@ impl<G: Guide> Drive<G> {
         queue: &mut [Entry<M>],
     ) -> Result<(u8, u32), Refusal>
         ensures refused { IfErr result (λ e. (look_refusal self.old board.old queue.old (G.Lattice.grid self.old.guide) (C.Carrier.ground carrier.now) ≡ Some e) × (self.new ≡ self.old) × (board.new ≡ board.old) × (queue.new ≡ queue.old)) }
-        ensures accepted { OnOk result (look_refusal self.old board.old queue.old (G.Lattice.grid self.old.guide) (C.Carrier.ground carrier.now) ≡ None) }
-        ensures beyond { drop (G.Lattice.grid self.old.guide).size board.new ≡ drop (G.Lattice.grid self.old.guide).size board.old }
+        ensures accepted { IfOk result (λ a. (look_refusal self.old board.old queue.old (G.Lattice.grid self.old.guide) (C.Carrier.ground carrier.now) ≡ None) × (a.0 ≡ feels (C.Floor.Lattice.grid (C.Carrier.floor carrier.now)) (C.Carrier.ground carrier.now)) × Looked M.Measure.scale M.Measure.value M.Measure.kept (G.Lattice.grid self.old.guide) a.0 self.old self.new board.old board.new queue.old queue.new a.1) }
         ensures guide { self.new.guide ≡ self.old.guide }
-        ensures own { G.Lattice.grid self.old.guide ≡ C.Floor.Lattice.grid (C.Carrier.floor carrier.now) → Agrees (G.Lattice.grid self.old.guide) (G.Guide.aim self.old.guide) M.Measure.scale M.Measure.value M.Measure.kept look (look-answer result) (record { drive = self.old; board = board.old; queue = queue.old; ground = C.Carrier.ground carrier.now }) (record { drive = self.new; board = board.new; queue = queue.new; ground = C.Carrier.ground carrier.now }) }
+        ensures own { G.Lattice.grid self.old.guide ≡ C.Floor.Lattice.grid (C.Carrier.floor carrier.now) → Agrees (G.Lattice.grid self.old.guide) (G.Guide.aim self.old.guide) M.Measure.scale M.Measure.value M.Measure.kept look (look_answer result) (record { drive = self.old; board = board.old; queue = queue.old; ground = C.Carrier.ground carrier.now }) (record { drive = self.new; board = board.new; queue = queue.new; ground = C.Carrier.ground carrier.now }) }
     {
         let lent = Lent {
             records: board.len(),
@@ -38,13 +38,13 @@ impl<G: Guide> Drive<G> {
         };
         self.check(Call::Look, lent)?;
         let felt = carrier.feel();
-        let size = self.guide.size() as usize;
-        let new = self.see(felt, &mut board[..size], queue);
+        let new = self.see(felt, board, queue);
         Ok((felt, new))
     }
 
     // Takes in a felt byte: how many of its rock cells are new.
     fn see<M: Measure>(&mut self, felt: u8, board: &mut [Square<M>], queue: &mut [Entry<M>]) -> u32
+        requires { 0 < length queue.old }
         ensures { Looked M.Measure.scale M.Measure.value M.Measure.kept (G.Lattice.grid self.old.guide) felt self.old self.new board.old board.new queue.old queue.new result }
     {
         let fresh = new_bits(&self.guide, self.cell, felt, board);
@@ -58,6 +58,7 @@ impl<G: Guide> Drive<G> {
 
     // With a pointer at the carrier's cell the drive is ready to go, and else a search begins.
     fn go_on<M: Measure>(&mut self, board: &mut [Square<M>], queue: &mut [Entry<M>])
+        requires { 0 < length queue.old }
         ensures { GoesOn M.Measure.scale M.Measure.value M.Measure.kept self.old self.new board.old board.new queue.old queue.new }
     {
         if pointer(board, self.cell) == 0 {

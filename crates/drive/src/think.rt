@@ -3,7 +3,7 @@ ghost use Rattle.std.specs.Prelude.{◌≡◌, drop, IfErr, Some, None, OnOk};
 ghost use Rattle.model.specs.Ground.{Ground};
 ghost use Rattle.model.specs.Plain.{think};
 ghost use Rattle.reconnect.specs.Represents.{Memory};
-ghost use Rattle.drive.specs.Answers.{think-answer};
+ghost use Rattle.drive.specs.Answers.{think_answer};
 ghost use Rattle.drive.specs.Looking.{turned};
 ghost use Rattle.drive.specs.Owning.{DriveMemory, Agrees};
 ghost use Rattle.drive.specs.Thinking.{think_refusal, phase_after, ThinksAs};
@@ -41,7 +41,7 @@ impl<G: Guide> Drive<G> {
         ensures accepted { OnOk result (think_refusal self.old board.old queue.old budget (G.Lattice.grid self.old.guide) ≡ None) }
         ensures beyond { drop (G.Lattice.grid self.old.guide).size board.new ≡ drop (G.Lattice.grid self.old.guide).size board.old }
         ensures guide { self.new.guide ≡ self.old.guide }
-        ensures own { (ground : Ground) → Agrees (G.Lattice.grid self.old.guide) (G.Guide.aim self.old.guide) M.Measure.scale M.Measure.value M.Measure.kept (think budget) (think-answer result) (record { drive = self.old; board = board.old; queue = queue.old; ground = ground }) (record { drive = self.new; board = board.new; queue = queue.new; ground = ground }) }
+        ensures own { (ground : Ground) → Agrees (G.Lattice.grid self.old.guide) (G.Guide.aim self.old.guide) M.Measure.scale M.Measure.value M.Measure.kept (think budget) (think_answer result) (record { drive = self.old; board = board.old; queue = queue.old; ground = ground }) (record { drive = self.new; board = board.new; queue = queue.new; ground = ground }) }
     {
         let lent = Lent {
             records: board.len(),

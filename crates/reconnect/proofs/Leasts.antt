@@ -3,7 +3,7 @@ use Rattle.std.proofs.Common.{◌≡◌, ℕ, zero, suc, ◌<◌, ◌≤◌, Boo
 use native.Mathlib.Decide.{ℕ_discrete}
 use borrow.Author.Tests.{both_ways}
 use Rattle.model.specs.Scale.{Ordered}
-use Rattle.model.specs.Plain.{World, Squares, value_of, waits, sooner, least}
+use Rattle.model.specs.Plain.{World, Squares, worth, waits, sooner, least}
 use Rattle.model.proofs.Search.Least.{Best, best}
 
 module _ (w : World) (ordered : Ordered w.scale) (q : Squares w) where
@@ -11,7 +11,7 @@ module _ (w : World) (ordered : Ordered w.scale) (q : Squares w) where
   Waits a = waits w (q a).stage ≡ true
 
   abbrev at_most : ℕ → ℕ → Bool
-  at_most a c = w.scale.at_most (value_of w (q a).stage) (value_of w (q c).stage)
+  at_most a c = w.scale.at_most (worth w (q a).stage) (worth w (q c).stage)
 
   -- where no cell waits none is found
   pub least_none : (n : ℕ) → ((a : ℕ) → a < n → Waits a → ⊥) → least w q n ≡ None

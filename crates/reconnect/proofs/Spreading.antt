@@ -7,7 +7,7 @@ use borrow.Author.Tests.{both_ways}
 use Rattle.std.specs.List.{slice_get}
 use Rattle.model.specs.Lattice.{Lawful, is}
 use Rattle.model.specs.Plain as plain
-use Rattle.model.specs.Plain.{World, Squares, put, is_rock_mark, is_unseen_mark, is_taken, towards, value_of, spread}
+use Rattle.model.specs.Plain.{World, Squares, put, is_rock_mark, is_unseen_mark, is_taken, towards, worth, spread}
 use Rattle.model.proofs.Basics.Tables.{put_here, put_else}
 use Rattle.model.proofs.Basics.Counting.{count_same}
 use Rattle.model.proofs.Basics.Directions.{towards_only}
@@ -61,7 +61,7 @@ module _ (w : World) (lawful : Lawful w.lattice) (q : Squares w) (a : ℕ) where
   spread_none n e = fun_ext (λ b. ap (λ d. cond (eqb d 0) (q b) (spread w q a b)) (sym (first_stays n (λ d. is (w.lattice.beside a d) b) (ap (λ o. is o b) e))))
 
   -- a direction that leads to a neighbour
-  module _ {M : Type 0} (value : M → w.scale.Value) (m : M) (measures : value m ≡ value_of w (q a).stage) (n c : ℕ) (leads : w.lattice.beside a (suc n) ≡ Some c) where
+  module _ {M : Type 0} (value : M → w.scale.Value) (m : M) (measures : value m ≡ worth w (q a).stage) (n c : ℕ) (leads : w.lattice.beside a (suc n) ≡ Some c) where
     abbrev t : Taken M
     t = record { cell = a; measure = m }
 
@@ -76,8 +76,8 @@ module _ (w : World) (lawful : Lawful w.lattice) (q : Squares w) (a : ℕ) where
     spread_is : spread w q a c ≡ cond (is_rock_mark (q c).mark) (q c) (plain.with_stage w (q c) (plain.reached w (q c).stage (w.scale.extend (value m) (w.lattice.cost (suc n)) (is_unseen_mark (q c).mark)) a))
     unfolding spread
     spread_is =
-        ap (λ d. cond (eqb d 0 || is_rock_mark (q c).mark) (q c) (plain.with_stage w (q c) (plain.reached w (q c).stage (w.scale.extend (value_of w (q a).stage) (w.lattice.cost d) (is_unseen_mark (q c).mark)) a))) (towards_only w lawful a (suc n) c leads)
-        ∙ ap (λ b. cond (b || is_rock_mark (q c).mark) (q c) (plain.with_stage w (q c) (plain.reached w (q c).stage (w.scale.extend (value_of w (q a).stage) (w.lattice.cost (suc n)) (is_unseen_mark (q c).mark)) a))) (eqb-suc-zero n)
+        ap (λ d. cond (eqb d 0 || is_rock_mark (q c).mark) (q c) (plain.with_stage w (q c) (plain.reached w (q c).stage (w.scale.extend (worth w (q a).stage) (w.lattice.cost d) (is_unseen_mark (q c).mark)) a))) (towards_only w lawful a (suc n) c leads)
+        ∙ ap (λ b. cond (b || is_rock_mark (q c).mark) (q c) (plain.with_stage w (q c) (plain.reached w (q c).stage (w.scale.extend (worth w (q a).stage) (w.lattice.cost (suc n)) (is_unseen_mark (q c).mark)) a))) (eqb-suc-zero n)
         ∙ ap (λ v. cond (is_rock_mark (q c).mark) (q c) (plain.with_stage w (q c) (plain.reached w (q c).stage (w.scale.extend v (w.lattice.cost (suc n)) (is_unseen_mark (q c).mark)) a))) (sym measures)
 
     abbrev reached_as : plain.Square w.scale.Value → plain.Square w.scale.Value
@@ -99,12 +99,12 @@ module _ (w : World) (lawful : Lawful w.lattice) (q : Squares w) (a : ℕ) where
   spread_end = fun_ext (λ b. by b (eqb (towards w a b) 0) refl)
     where
       by : (b : ℕ) (c : Bool) → eqb (towards w a b) 0 ≡ c → cond c (q b) (spread w q a b) ≡ spread w q a b
-      by b true e = sym (ap (λ z. cond (z || is_rock_mark (q b).mark) (q b) (plain.with_stage w (q b) (plain.reached w (q b).stage (w.scale.extend (value_of w (q a).stage) (w.lattice.cost (towards w a b)) (is_unseen_mark (q b).mark)) a))) e)
+      by b true e = sym (ap (λ z. cond (z || is_rock_mark (q b).mark) (q b) (plain.with_stage w (q b) (plain.reached w (q b).stage (w.scale.extend (worth w (q a).stage) (w.lattice.cost (towards w a b)) (is_unseen_mark (q b).mark)) a))) e)
       by b false e = refl
 
 -- the measure of a taken cell, as code reads it, is that of the plain drive, and exact
 pub record Measured (w : World) {M : Type 0} (value : M → w.scale.Value) (kept : M → ℕ → Type 0) (q : Squares w) (a : ℕ) (r : M) : Type 0 where
-  pub measures : value r ≡ value_of w (q a).stage
+  pub measures : value r ≡ worth w (q a).stage
   pub steps : ℕ
   pub early : steps < taken_cells w.lattice.size q
   pub exact : kept r steps
@@ -113,7 +113,7 @@ module _ (w : World) {M : Type 0} (value : M → w.scale.Value) (kept : M → �
   by_stage : (t : Stage M) → stage_shown value t ≡ (q a).stage → is_taken (stage_shown value t) ≡ true → Exact kept (taken_cells w.lattice.size q) t → IsMeasure w.scale value kept t r → Measured w value kept q a r
   by_stage stage.Idle e k x is = absurd (both_ways false refl k)
   by_stage (stage.Waiting m b) e k x is = absurd (both_ways false refl k)
-  by_stage (stage.Taken m b) e k x is = record { measures = ap value is ∙ ap (value_of w) e; steps = x.0; early = x.1; exact = subst (λ z. kept z x.0) (sym is) x.2 }
+  by_stage (stage.Taken m b) e k x is = record { measures = ap value is ∙ ap (worth w) e; steps = x.0; early = x.1; exact = subst (λ z. kept z x.0) (sym is) x.2 }
 
   pub taken_measured :
       Frontier w.scale value kept w.lattice.size number board queue n q → a < w.lattice.size → is_taken (q a).stage ≡ true →

@@ -8,7 +8,7 @@ use Rattle.model.specs.declared.Phase.{Phase}
 use Rattle.model.specs.declared.Phase.TheVariants as phase
 use Rattle.model.specs.Scale.{Ordered}
 use Rattle.model.specs.Plain as plain
-use Rattle.model.specs.Plain.{World, State, Squares, resting, put, is_taken, value_of, back_of, waits, least, with_search, as_taken, take}
+use Rattle.model.specs.Plain.{World, State, Squares, resting, put, is_taken, worth, from, waits, least, with_search, as_taken, take}
 use Rattle.model.proofs.Basics.Tables.{put_here, put_else}
 use Rattle.model.proofs.Basics.Tests.{same_some, none_some}
 use Rattle.model.proofs.Basics.Counting.{count_more}
@@ -56,7 +56,7 @@ module _ (w : World) (ordered : Ordered w.scale) where
       go (Some b) e = ap (took w s) (same_some e)
 
   -- a stage that waits
-  waiting_is : (t : plain.Stage w.scale.Value) → waits w t ≡ true → t ≡ plain.waiting (value_of w t) (back_of w t)
+  waiting_is : (t : plain.Stage w.scale.Value) → waits w t ≡ true → t ≡ plain.waiting (worth w t) (from w t)
   waiting_is plain.idle e = absurd (both_ways false refl e)
   waiting_is (plain.waiting v b) e = refl
   waiting_is (plain.taken v b) e = absurd (both_ways false refl e)
@@ -100,9 +100,9 @@ module _ (w : World) (ordered : Ordered w.scale) where
         inside = ch.inside;
         waiting = ap (waits w) here;
         before = λ c l h.
-            let k = ch.least c (value_of w (stages c)) (back_of w (stages c)) l (waiting_is (stages c) h) in (
-              subst (λ v. w.scale.at_most v (value_of w (stages c)) ≡ true) (sym (ap (value_of w) here)) k.0,
-              λ back. k.1 (subst (λ v. w.scale.at_most (value_of w (stages c)) v ≡ true) (ap (value_of w) here) back),
+            let k = ch.least c (worth w (stages c)) (from w (stages c)) l (waiting_is (stages c) h) in (
+              subst (λ v. w.scale.at_most v (worth w (stages c)) ≡ true) (sym (ap (worth w) here)) k.0,
+              λ back. k.1 (subst (λ v. w.scale.at_most (worth w (stages c)) v ≡ true) (ap (worth w) here) back),
             );
       }
 
@@ -113,7 +113,7 @@ module _ (w : World) (ordered : Ordered w.scale) where
       taken_square = plain.with_stage w (s.squares x.cell) (plain.taken (value x.measure) x.back)
 
       taken_is : as_taken w (s.squares x.cell) ≡ taken_square
-      taken_is = ap (λ t. plain.with_stage w (s.squares x.cell) (plain.taken (value_of w t) (back_of w t))) here
+      taken_is = ap (λ t. plain.with_stage w (s.squares x.cell) (plain.taken (worth w t) (from w t))) here
 
       abbrev new : Squares w
       new = put s.squares x.cell taken_square

@@ -6,8 +6,8 @@ use Rattle.std.specs.List.{slice_get}
 use Rattle.model.specs.declared.Phase.TheVariants as phase
 use Rattle.model.specs.Lattice.{Lawful}
 use Rattle.model.specs.Plain as plain
-use Rattle.model.specs.Plain.{World, State, Squares, Walk, resting, walking, put, is_taken, value_of, next, spread, retraced, with_search, take, walk_on, fail_walk, step_of, think_step}
-use Rattle.model.specs.Promise.{Fit, Reachable}
+use Rattle.model.specs.Plain.{World, State, Squares, Walk, resting, walking, put, is_taken, worth, next, spread, retraced, with_search, take, walk_on, fail_walk, step_of, think_step}
+use Rattle.model.specs.Promise.{Fit, Reached}
 use Rattle.model.proofs.Basics.Tables.{put_part}
 use Rattle.model.proofs.Basics.Tests.{same_some, none_some}
 use Rattle.model.proofs.Basics.Counting.{count_same, count_fewer, count_at_most}
@@ -63,7 +63,7 @@ module _ (w : World) where
   -- joining at the taken cell a, in a search that began at a cell
   abbrev pub joined_from : ℕ → State w → ℕ → State w × plain.Course
   joined_from home s a =
-      let shown = w.scale.shown (value_of w (s.squares a).stage) in
+      let shown = w.scale.shown (worth w (s.squares a).stage) in
       (with_search w s phase.Ready (retraced w w.lattice.size home a s.squares) resting, plain.join shown.0 shown.1)
 
   pub joins : (s : State w) (a b : ℕ) → b ≡ w.guide.goal → walk_on w s a b ≡ joined w s a
@@ -87,7 +87,7 @@ module _ (w : World) where
       not_at_goal s a b n ∙ ap (onwards s a b) e
       ∙ ap (λ t. cond t (stopped w s a b) (walked w s a b c)) (eq-eqb (painting w s b c).paint s.searches f)
 
-  module _ (fit : Fit w) (s : State w) (n : ℕ) (reached : Reachable w s n) (searching : s.phase ≡ phase.Searching) where
+  module _ (fit : Fit w) (s : State w) (n : ℕ) (reached : Reached w s n) (searching : s.phase ≡ phase.Searching) where
     abbrev size : ℕ
     size = w.lattice.size
 

@@ -20,7 +20,7 @@ next_number n = min (n + 1) 65535
 -- the next search begins at a cell: it alone waits, at zero, with itself as its back, and is the queue's only entry, if the queue has room
 pub record Begins {M : Type 0} (scale : Scale) (value : M → scale.Value) (kept : M → ℕ → Type 0) (cell : ℕ) (before after : Memory M) : Type 0 where
   pub zero : M
-  pub nought : value zero ≡ scale.zero
+  pub nought : value zero ≡ scale.none
   pub exact : kept zero 0
   pub number : after.search.number ≡ next_number before.search.number
   pub rests : after.search.walk ≡ walk.Resting

@@ -32,7 +32,7 @@ module _ {M : Type 0} (scale : Scale) (value : M → scale.Value) where
 
   -- the measure of a stage; that of an idle cell is zero
   abbrev pub IsMeasure : (M → ℕ → Type 0) → Stage M → M → Type 0
-  IsMeasure kept stage.Idle r = (value r ≡ scale.zero) × kept r 0
+  IsMeasure kept stage.Idle r = (value r ≡ scale.none) × kept r 0
   IsMeasure kept (stage.Waiting m b) r = r ≡ m
   IsMeasure kept (stage.Taken m b) r = r ≡ m
 

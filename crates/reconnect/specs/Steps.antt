@@ -5,8 +5,8 @@ use Rattle.model.specs.Lattice.{Lattice, Guide}
 use Rattle.model.specs.Ground.{Ground}
 use Rattle.model.specs.Scale.{Scale}
 use Rattle.model.specs.Plain as plain
-use Rattle.model.specs.Plain.{World, State, resting, walking, is_taken, value_of, retraced, with_search, take, walk_on, think_step}
-use Rattle.model.specs.Promise.{Fit, Reachable}
+use Rattle.model.specs.Plain.{World, State, resting, walking, is_taken, worth, retraced, with_search, take, walk_on, think_step}
+use Rattle.model.specs.Promise.{Fit, Reached}
 use Rattle.model.specs.Worlds.{over}
 use Rattle.reconnect.specs.declared.state.Course.{Course}
 use Rattle.reconnect.specs.declared.state.Course.TheVariants as course
@@ -40,7 +40,7 @@ module _ (scale : Scale) {M : Type 0} (value : M → scale.Value) (kept : M → 
         Represents (over l ground aim scale) value kept before s →
         ComesTo (over l ground aim scale) value kept c after (
           with_search (over l ground aim scale) s phase.Ready (retraced (over l ground aim scale) l.size home a s.squares) resting,
-          plain.join (scale.shown (value_of (over l ground aim scale) (s.squares a).stage)).0 (scale.shown (value_of (over l ground aim scale) (s.squares a).stage)).1,
+          plain.join (scale.shown (worth (over l ground aim scale) (s.squares a).stage)).0 (scale.shown (worth (over l ground aim scale) (s.squares a).stage)).1,
         )
 
     module _ (aim : Guide) where
@@ -48,7 +48,7 @@ module _ (scale : Scale) {M : Type 0} (value : M → scale.Value) (kept : M → 
       abbrev pub WalksAs : ℕ → ℕ → Type 0
       WalksAs a b =
           (ground : Ground) (s : State (over l ground aim scale)) (n : ℕ) →
-          Fit (over l ground aim scale) → Reachable (over l ground aim scale) s n → s.phase ≡ phase.Searching → s.cell ≡ home →
+          Fit (over l ground aim scale) → Reached (over l ground aim scale) s n → s.phase ≡ phase.Searching → s.cell ≡ home →
           s.walk ≡ walking a b → Represents (over l ground aim scale) value kept before s →
           ComesTo (over l ground aim scale) value kept c after (walk_on (over l ground aim scale) s a b)
 
@@ -56,6 +56,6 @@ module _ (scale : Scale) {M : Type 0} (value : M → scale.Value) (kept : M → 
       abbrev pub StepsAs : Type 0
       StepsAs =
           (ground : Ground) (s : State (over l ground aim scale)) (n : ℕ) →
-          Fit (over l ground aim scale) → Reachable (over l ground aim scale) s n → s.phase ≡ phase.Searching → s.cell ≡ home →
+          Fit (over l ground aim scale) → Reached (over l ground aim scale) s n → s.phase ≡ phase.Searching → s.cell ≡ home →
           Represents (over l ground aim scale) value kept before s →
           ComesTo (over l ground aim scale) value kept c after (think_step (over l ground aim scale) s)

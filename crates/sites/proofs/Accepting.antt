@@ -10,7 +10,7 @@ use Rattle.texts.specs.declared.heading.Heading.{Heading}
 use Rattle.sites.specs.declared.site.Site.{Site}
 use Rattle.texts.specs.Headings.{heading_field, heading_check}
 use Rattle.texts.specs.Lines.{TextLine, line_of, after_line, due_line, end_check, in_line}
-use Rattle.sites.specs.Site.{in_text, site_heading, is_mark, marks_check, row_check, rows_check, word_alone, after_lines, cells_of, ends_check, SiteValue, site_value, site_under, site_of}
+use Rattle.sites.specs.Site.{in_text, site_heading, is_mark, marks_check, row_check, rows_check, word_alone, after_lines, cells_of, ends_check, SiteValue, site_value, site_under, site_of, Accepted}
 use Rattle.sites.specs.Format.{plan_of, Bounded}
 use Rattle.texts.specs.Words.{length_check}
 use Rattle.texts.proofs.Cuts.{line_is_front}
@@ -99,7 +99,7 @@ passable_mark b m n = by (or_cases (eqb b 46) (eqb b 35) m)
     by (inl e) = eqb-true b 46 e
     by (inr e) = absurd (n (eqb-true b 35 e))
 
-sheet_accepted : (l : TextLine) (h : Heading) (rows : List ℕ) → Headed l h → rows_check h.height h.width 3 rows ≡ Ok (tt {0}) → ends_check h (take (h.height * (h.width + 1)) rows) ≡ Ok (tt {0}) → Bounded (plan_of (record { heading = h; sheet = take (h.height * (h.width + 1)) rows }))
+sheet_accepted : (l : TextLine) (h : Heading) (rows : List ℕ) → Headed l h → rows_check h.height h.width 3 rows ≡ Ok (tt {0}) → ends_check h (take (h.height * (h.width + 1)) rows) ≡ Ok (tt {0}) → Accepted h (take (h.height * (h.width + 1)) rows)
 sheet_accepted l h rows g r e =
     let w = h.width in
     let k = h.height in
@@ -112,6 +112,7 @@ sheet_accepted l h rows g r e =
     record {
       known = g.known;
       small = g.small;
+      rows = length-take-le (k * (w + 1)) rows long;
       cells = ap (λ (x : List ℕ). length x) same ∙ cells_long k w rows long ∙ sym turn;
       marks = λ c l. all c (omega arith);
       start = f.start;
@@ -119,7 +120,7 @@ sheet_accepted l h rows g r e =
       goal = f.goal;
     }
 
-under_accepted : (l : TextLine) (h : Heading) (plan : List ℕ) (s : SiteValue) → Headed l h → site_under h plan ≡ Ok s → Bounded (plan_of s)
+under_accepted : (l : TextLine) (h : Heading) (plan : List ℕ) (s : SiteValue) → Headed l h → site_under h plan ≡ Ok s → Accepted s.heading s.sheet
 unfolding site_under
 under_accepted l h plan s g e =
     let rows = after_line plan in
@@ -131,12 +132,12 @@ under_accepted l h plan s g e =
     let d = passed (in_text (end_check (h.height + 4) (after_line end))) _ c.2 in
     let f = passed (ends_check h sheet) _ d.2 in
     let last : record { heading = h; sheet = sheet } ≡ s = taken f.2 in
-    subst (λ (v : SiteValue). Bounded (plan_of v)) last (sheet_accepted l h rows g b.1 f.1)
+    subst (λ (v : SiteValue). Accepted v.heading v.sheet) last (sheet_accepted l h rows g b.1 f.1)
   where
     taken : {v : SiteValue} → ◌≡◌ {A = Result SiteValue SiteFault} (Ok v) (Ok s) → v ≡ s
     taken {v} q = cc
 
-pub accepted : (t : List ℕ) (s : SiteValue) → site_of t ≡ Ok s → Bounded (plan_of s)
+pub accepted : (t : List ℕ) (s : SiteValue) → site_of t ≡ Ok s → Accepted s.heading s.sheet
 unfolding site_of
 accepted t s e =
     let p = refuses (ltb 4096 (length t)) _ _ _ e in
@@ -144,6 +145,14 @@ accepted t s e =
     let b = passed (site_heading a.0) _ a.2 in
     under_accepted a.0 b.0 (after_line t) s (headed a.0 b.0 (sym b.1)) b.2
 
-pub accepted_site : (r : Result Site SiteFault) (t : List ℕ) → result_map_both site_value (λ e. e) r ≡ site_of t → IfOk r (λ s. Bounded (plan_of (site_value s)))
+pub accepted_site : (r : Result Site SiteFault) (t : List ℕ) → result_map_both site_value (λ e. e) r ≡ site_of t → IfOk r (λ s. Accepted s.heading s.sheet.now)
 accepted_site (Ok s) t e = accepted t (site_value s) (sym e)
 accepted_site (Err d) t e = tt
+
+-- such a site keeps the bounds of a plan
+pub bounded : (s : SiteValue) → Accepted s.heading s.sheet → Bounded (plan_of s)
+bounded s a = record { known = a.known; small = a.small; cells = a.cells; marks = a.marks; start = a.start; passable = a.passable; goal = a.goal }
+
+pub bounded_site : (r : Result Site SiteFault) (t : List ℕ) → result_map_both site_value (λ e. e) r ≡ site_of t → IfOk r (λ s. Bounded (plan_of (site_value s)))
+bounded_site (Ok s) t e = bounded (site_value s) (accepted t (site_value s) (sym e))
+bounded_site (Err d) t e = tt

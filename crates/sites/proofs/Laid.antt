@@ -21,7 +21,7 @@ use Rattle.sites.specs.declared.fault.SiteFault.TheVariants as fault
 use Rattle.sites.specs.Format.{Plan, plan_of, rows_text, site_text, Bounded, SiteLaw}
 use Rattle.sites.specs.Site.{in_text, in_heading, site_heading, is_mark, marks_check, row_check, rows_check, word_alone, after_lines, cells_of, ends_check, SiteValue, site_value, site_under, site_of}
 use Rattle.sites.specs.declared.site.Site.{Site}
-use Rattle.sites.proofs.Accepting.{accepted, cells_front, refuses}
+use Rattle.sites.proofs.Accepting.{accepted, bounded, cells_front, refuses}
 use Rattle.sites.proofs.Rows.{row_long, rows_long}
 use Rattle.sites.proofs.Under.{headed}
 
@@ -264,7 +264,7 @@ site_law r t e p = (read r e, written)
     read : (r : Result SiteValue SiteFault) → r ≡ site_of t → result_map_both plan_of (λ d. d) r ≡ Ok p → (t ≡ site_text p) × Bounded p
     read (Ok s) h g =
         let same : plan_of s ≡ p = cc in
-        subst (λ (x : Plan). (t ≡ site_text x) × Bounded x) same (laid t s (sym h), accepted t s (sym h))
+        subst (λ (x : Plan). (t ≡ site_text x) × Bounded x) same (laid t s (sym h), bounded s (accepted t s (sym h)))
     read (Err d) h g = let z : ◌≡◌ {A = ℕ} 0 1 = cc in absurd (omega arith)
 
     written : t ≡ site_text p → Bounded p → result_map_both plan_of (λ d. d) r ≡ Ok p

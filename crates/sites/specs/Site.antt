@@ -1,5 +1,5 @@
 -- A site text, line by line: the first line, `PLAN`, the rows of the sheet, `END`.
-use Rattle.std.specs.Prelude.{ℕ, zero, suc, ◌+◌, ◌*◌, Bool, cond, ◌||◌, List, [], ◌∷◌, ◌++◌, length, take, drop, Ok, Err, codes, Result, ◌==◌, nat_le, nat_lt, slice_index}
+use Rattle.std.specs.Prelude.{◌≡◌, ℕ, zero, suc, ◌+◌, ◌*◌, ◌<◌, ◌≤◌, Bool, true, cond, ◌||◌, List, [], ◌∷◌, ◌++◌, length, take, drop, Ok, Err, codes, Result, ◌==◌, nat_le, nat_lt, slice_index, slice_index_or}
 use Rattle.std.specs.Result.{result_map_both}
 use Rattle.texts.specs.declared.fault.TextFault.{TextFault}
 use Rattle.texts.specs.declared.fault.HeadingFault.{HeadingFault}
@@ -93,3 +93,14 @@ unfoldable pub site_of : List ℕ → Result SiteValue SiteFault
 site_of t =
     cond (nat_lt 4096 (length t)) (Err fault.TooLong)
     (in_text (due_line 1 t) >>= λ first. site_heading first >>= λ h. site_under h (after_line t))
+
+-- what holds of a site that is accepted: a floor of at most 512 cells, each passable or rock, its start passable and its goal a cell
+pub record Accepted (h : Heading) (sheet : List ℕ) : Type 0 where
+  pub known : heading_check h ≡ Ok (tt {0})
+  pub small : h.width * h.height ≤ 512
+  pub rows : length sheet ≡ h.height * (h.width + 1)
+  pub cells : length (cells_of h.width h.height sheet) ≡ h.width * h.height
+  pub marks : (c : ℕ) → c < h.width * h.height → is_mark (slice_index (cells_of h.width h.height sheet) c) ≡ true
+  pub start : h.start < h.width * h.height
+  pub passable : slice_index_or (cells_of h.width h.height sheet) h.start 0 ≡ 46
+  pub goal : h.goal < h.width * h.height

@@ -2,7 +2,7 @@
 ghost use Rattle.std.specs.Prelude.{◌≡◌, ◌+◌, ◌*◌, ◌<◌, ◌≤◌, length, IfOk, OnOk};
 ghost use Rattle.std.specs.Result.{result_map_both};
 ghost use Rattle.texts.specs.Lines.{line_text, after_line, next_number};
-ghost use Rattle.sites.specs.Site.{site_heading, row_check, marks_check, word_alone, rows_check, after_lines, cells_of, ends_check, site_value, site_under, site_of};
+ghost use Rattle.sites.specs.Site.{site_heading, row_check, marks_check, word_alone, rows_check, after_lines, cells_of, ends_check, site_value, site_under, site_of, Accepted};
 ghost use Rattle.sites.specs.Format.{plan_of, Bounded, SiteLaw};
 ghost use Rattle.texts.specs.Words.{word_bytes};
 
@@ -47,7 +47,8 @@ const MOST_CELLS: u32 = 512;
 // Reads a site text.
 pub fn read_site(text: &[u8]) -> Result<Site<'_>, SiteFault>
     ensures value { result_map_both site_value (λ e. e) result ≡ site_of text.now }
-    ensures accepted { IfOk result (λ s. Bounded (plan_of (site_value s))) }
+    ensures accepted { IfOk result (λ s. Accepted s.heading s.sheet.now) }
+    ensures bounded { IfOk result (λ s. Bounded (plan_of (site_value s))) }
     ensures law { SiteLaw text.now (result_map_both (λ s. plan_of (site_value s)) (λ e. e) result) }
 {
     if text.len() > MOST_BYTES {

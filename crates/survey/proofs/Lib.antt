@@ -1,3 +1,1 @@
-pub mod Worlds
-pub mod Calls
-pub mod Filing
+pub mod Surveying

@@ -1,36 +1,35 @@
-// Surveying a site: its text is read, the site is driven, and the course is filed.
-ghost use Rattle.std.specs.Prelude.{◌≡◌, ◌+◌, ◌*◌, ◌≤◌, length, IfOk};
-ghost use Rattle.model.specs.Worlds.{over};
-ghost use Rattle.filing.specs.Pen.{close_answer, last_line};
+// Driving a site and filing the course.
+ghost use Rattle.std.specs.Prelude.{◌≡◌, ◌+◌, ◌≤◌, [], length, IfOk, OnOk};
+ghost use Rattle.filing.specs.declared.pen.Ending.TheVariants.{Done};
+ghost use Rattle.filing.specs.Pen.{last_line, pen_behind};
+ghost use Rattle.sites.specs.Site.{site_of};
 ghost use Rattle.filing.specs.Written.{overwritten};
-ghost use Rattle.sites.specs.Format.{plan_of, Bounded};
-ghost use Rattle.sites.specs.Site.{site_of, site_value};
-ghost use Rattle.survey.specs.Sites.{site_ground, site_scale};
-ghost use Rattle.survey.specs.Surveying.{Files, Surveys, Closes};
+ghost use Rattle.survey.specs.Surveying.{SiteFirst, Filed, Course};
 
-use crate::driving::drive_on;
 use crate::fault::Fault;
-use board::square::Square;
 use carrier::Carrier;
 use carrier::sheet::Sheet;
 use drive::begin::begin;
-use filing::pen::{Ending, Pen, Unclosed};
+use board::square::Square;
+use drive::drive::Drive;
+use drive::refusal::Refusal;
+use filing::pen::{Pen, Unclosed};
 use floor::aiming::Aimed;
 use floor::kings::Kings;
 use floor::streets::Streets;
-use floor::{Lattice, Metric};
+use floor::{Guide, Lattice, Metric};
 use measure::queue::Entry;
 use measure::{Length, Measure, Sure};
-use model::Mark;
+use model::{Mark, Phase};
+use std::alloc::Global;
 use sites::fault::SiteFault;
 use sites::site::{Site, read_site};
-use std::alloc::Global;
 use texts::fault::HeadingFault;
 use texts::heading::{LatticeKind, MEASURE, MeasureKind, NEIGHBOURS, in_column};
 
 // Reads a site text, drives the site, and writes the record of the drive into the buffer: the number of its bytes.
 pub fn survey(heap: Global, text: &[u8], buffer: &mut [u8]) -> Result<usize, Fault>
-    ensures surveys { Surveys (site_of text.now) buffer.old buffer.new result }
+    ensures site { SiteFirst (site_of text.now) buffer.old buffer.new result }
     ensures within { IfOk result (λ bytes. bytes ≤ length buffer.old) }
 {
     let site = read_site(text)?;
@@ -54,8 +53,7 @@ fn by_measure<L: Metric + Copy>(
     site: &Site,
     buffer: &mut [u8],
 ) -> Result<usize, Fault>
-    requires { Bounded (plan_of (site_value site.now)) × ((L.Lattice.grid lattice).size ≡ site.now.heading.width * site.now.heading.height) }
-    ensures { Files (over (L.Lattice.grid lattice) (site_ground (site_value site.now)) (L.Metric.towards lattice site.now.heading.goal) (site_scale site.now.heading)) site.now.heading buffer.old buffer.new result }
+    ensures { IfOk result (λ bytes. Filed site.now.heading buffer.old buffer.new bytes) }
 {
     match site.heading.measured_by() {
         Some(MeasureKind::Length) => file::<L, Length>(heap, lattice, site, buffer),
@@ -71,8 +69,7 @@ fn file<L: Metric + Copy, M: Measure + Clone>(
     site: &Site,
     buffer: &mut [u8],
 ) -> Result<usize, Fault>
-    requires { Bounded (plan_of (site_value site.now)) × ((L.Lattice.grid lattice).size ≡ site.now.heading.width * site.now.heading.height) }
-    ensures { Files (over (L.Lattice.grid lattice) (site_ground (site_value site.now)) (L.Metric.towards lattice site.now.heading.goal) M.Measure.scale) site.now.heading buffer.old buffer.new result }
+    ensures { IfOk result (λ bytes. Filed site.now.heading buffer.old buffer.new bytes) }
 {
     let sheet = site.cells(heap)?;
     // What the reader of the site accepted fits a carrier, so only memory can be wanting.
@@ -89,7 +86,7 @@ fn file<L: Metric + Copy, M: Measure + Clone>(
     let guide = Aimed::new(carrier.lattice(), site.heading.goal);
     let mut drive = begin(&carrier, guide, &mut board, &queue);
     let mut pen = Pen::begin(&site.heading, buffer)?;
-    match drive_on(
+    match follow(
         &mut drive,
         &mut carrier,
         &mut board,
@@ -97,7 +94,7 @@ fn file<L: Metric + Copy, M: Measure + Clone>(
         &mut pen,
         buffer,
     ) {
-        Ok(ending) => close(pen, buffer, ending, drive.tell().found),
+        Ok(()) => close(pen, buffer, drive.tell().found),
         Err(fault) => {
             pen.abandon();
             Err(fault)
@@ -105,15 +102,46 @@ fn file<L: Metric + Copy, M: Measure + Clone>(
     }
 }
 
-// Closes the record of a drive that ended.
-fn close(pen: Pen, buffer: &mut [u8], ending: Ending, rock: u32) -> Result<usize, Fault>
-    ensures { Closes pen ending rock buffer.old buffer.new result }
+// Looks and goes, with a row for each move, until the carrier stands on the goal.
+// It follows pointers that form a tree, so there are fewer moves than cells.
+fn follow<G: Guide, C: Carrier, M: Measure>(
+    drive: &mut Drive<G>,
+    carrier: &mut C,
+    board: &mut [Square<M>],
+    queue: &mut [Entry<M>],
+    pen: &mut Pen,
+    buffer: &mut [u8],
+) -> Result<(), Fault>
+    requires { (pen.old ≡ pen_behind []) × (96 ≤ length buffer.old) }
+    ensures { OnOk result (Course buffer.old pen.new buffer.new) }
 {
-    let closed = match ending {
-        Ending::Done => pen.done(buffer, rock),
-        Ending::Shut => pen.shut(buffer, rock),
-    };
-    match closed {
+    for _ in 0..board.len() {
+        if drive.tell().phase == Phase::Arrived {
+            return Ok(());
+        }
+        let cell = advance(drive, carrier, board, queue)?;
+        pen.row(buffer, cell, drive.tell().length)?;
+    }
+    Err(Fault::Drive(Refusal::WrongPhase))
+}
+
+// A look and a step: the cell stepped onto.
+fn advance<G: Guide, C: Carrier, M: Measure>(
+    drive: &mut Drive<G>,
+    carrier: &mut C,
+    board: &mut [Square<M>],
+    queue: &mut [Entry<M>],
+) -> Result<u32, Fault> {
+    drive.look(carrier, board, queue)?;
+    let cell = drive.go(carrier, board)?;
+    Ok(cell)
+}
+
+// Closes the record of a drive that arrived.
+fn close(pen: Pen, buffer: &mut [u8], rock: u32) -> Result<usize, Fault>
+    ensures { IfOk result (λ bytes. (bytes ≡ pen.at + 35) × (bytes ≤ length buffer.old) × (buffer.new ≡ overwritten buffer.old pen.at (last_line Done pen rock))) }
+{
+    match pen.done(buffer, rock) {
         Ok(bytes) => Ok(bytes),
         Err(Unclosed { pen, fault }) => {
             pen.abandon();

@@ -2,6 +2,5 @@
 #![tactic(auto)]
 
 pub mod course;
-mod driving;
 pub mod fault;
 pub mod printing;

@@ -6,6 +6,7 @@ use Rattle.model.proofs.Promised.{new_drive_keeps}
 use Rattle.model.proofs.Voided.{vetted_fits}
 use Rattle.drive.specs.Beginning.{begun, Laid}
 use Rattle.drive.proofs.Beginning.{begun_owns}
+use Rattle.drive.proofs.Standing.{begun_stands}
 use Rattle.drive.proofs.Refusing.{refused_is, allowed_is, some_or_none}
 use Rattle.drive.proofs.begin.begin.Goals as goal
 
@@ -17,6 +18,7 @@ returns-in-Err g c =
       made = c.void.ensures ∙ ap (λ o. begun c.args.guide o (g.C.Carrier.ground c.args.carrier.now).at (g.G.Guide.aim c.args.guide).goal) (sym refusal);
       laid = λ e. absurd (some_or_none void e);
       untouched = λ e q. refl;
+      fresh = λ e. absurd (some_or_none void e);
       own = λ e. absurd (some_or_none void e);
       promise = λ e. absurd (some_or_none void e);
     }
@@ -45,6 +47,7 @@ returns g c =
       made = new ∙ ap (λ o. begun c.args.guide o ground.at aim.goal) (sym accepts);
       laid = λ _. laid;
       untouched = λ e q. absurd (some_or_none q (ap (λ d. d.void) c.at.ensures));
+      fresh = λ _. begun_stands (over l ground aim g.M.Measure.scale) g.M.Measure.value c.args.guide c.at.result c.args.board.now c.lay_out.new.board new laid;
       own = λ _ same. begun_owns (over l ground aim g.M.Measure.scale) (fit same) g.M.Measure.value g.M.Measure.kept c.args.guide c.at.result c.args.board.now c.lay_out.new.board c.args.queue.now new laid (subst (λ k. l.size ≤ k) (sym c.lay_out.auto.board) fits.1) fits.2;
       promise = λ _ same. new_drive_keeps (over l ground aim g.M.Measure.scale) (fit same);
     }

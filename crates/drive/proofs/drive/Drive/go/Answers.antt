@@ -1,11 +1,12 @@
 use Rattle.std.proofs.Common.{◌≡◌, ℕ, true, false, not, length, Some, None, Option, sym, refl, ap, ◌∙◌}
 use Rattle.std.proofs.lemmas.Result.{err_from_is_err_and}
-use Rattle.model.specs.Ground.{can_step}
+use Rattle.model.specs.Ground.{can_step, lands}
 use Rattle.board.specs.Board.{pointer_at}
 use Rattle.drive.specs.declared.call.Call.TheVariants.{Go}
 use Rattle.drive.specs.declared.refusal.Refusal.{Refusal}
 use Rattle.drive.specs.declared.refusal.Refusal.TheVariants.{StepRefused}
 use Rattle.drive.specs.Calls.{or_else, refuse_if, call_refusal}
+use Rattle.drive.specs.Going.{moved_to}
 use Rattle.drive.proofs.Refusing.{refused_is, allowed_is}
 use Rattle.drive.proofs.Going.{go_refused, go_unmoved, go_accepted}
 use Rattle.drive.proofs.drive.Drive.go.Goals as goal
@@ -62,7 +63,14 @@ returns g c =
     let steps : can_step floor ground (pointer_at board d.cell) ≡ true = ap (can_step floor ground) (sym c.pointer-direction.ensures) ∙ sym c.if-not-step.ensures.answers in
     record {
       refused = tt;
-      accepted = ap (λ o. or_else o (refuse_if (not (can_step floor ground (pointer_at board d.cell))) StepRefused)) passed ∙ ap (λ t. refuse_if (not t) StepRefused) steps;
+      accepted = (
+        ap (λ o. or_else o (refuse_if (not (can_step floor ground (pointer_at board d.cell))) StepRefused)) passed ∙ ap (λ t. refuse_if (not t) StepRefused) steps,
+        record {
+          landed = c.step.ensures.moves ∙ ap (lands floor ground) c.pointer-direction.ensures;
+          onto = c.cell-cell.ensures;
+        },
+        c.moved.ensures ∙ ap (λ x. moved_to d c.cell-cell.result x (g.G.Guide.aim d.guide).goal) (c.cost-cost.ensures ∙ ap (g.G.Lattice.grid d.guide).cost c.pointer-direction.ensures),
+      );
       guide = ap (λ z. z.guide) c.moved.ensures;
       stays = c.step.ensures.stays;
       own = λ same queue. go_accepted l (g.G.Guide.aim d.guide) g.M.Measure.scale g.M.Measure.value g.M.Measure.kept d board queue ground

@@ -1,0 +1,24 @@
+use Rattle.std.proofs.Common.{◌≡◌, ◌+◌, ◌≤◌, length, sym, refl, ◌∙◌, arith, leb-true}
+use Rattle.std.proofs.lemmas.Result.{IfOk-from_err}
+use Rattle.filing.specs.declared.pen.Pen.{Pen}
+use Rattle.texts.specs.Headings.{heading_check}
+use Rattle.filing.specs.Written.{fits}
+use Rattle.filing.proofs.Filed.{begun_pen, begun_checks}
+use Rattle.survey.proofs.Surveying.{closed_course}
+use Rattle.survey.proofs.course.file.Goals as goal
+
+pub follow-requires : goal.follow-requires
+follow-requires g c =
+    let h = c.args.site.now.heading in
+    let buffer = c.args.buffer.now in
+    let first : Pen = record { at = 96; row = 0; length = 0 } in
+    let room = (begun_checks (heading_check h) (fits buffer 0 131) c.in-ok-pen.pen first c.in-ok-pen.ensures.answer).1 in
+    (begun_pen (heading_check h) (fits buffer 0 131) c.in-ok-pen.pen first c.in-ok-pen.ensures.answer, omega (arith, leb-true (0 + 131) (length buffer) room))
+
+pub returns-in-Ok-follow : goal.returns-in-Ok-follow
+returns-in-Ok-follow g c =
+    closed_course c.args.site.now.heading c.args.buffer.now c.begin.new.buffer c.follow.new.buffer c.close.new.buffer c.follow.new.pen c.tell.result.found c.close.result
+    c.in-ok-pen.ensures.bytes (omega arith) c.in-Ok-follow.ensures c.close.ensures
+
+pub returns-in-err-pen : goal.returns-in-err-pen
+returns-in-err-pen g c = IfOk-from_err c.from-residual-in-err-pen.result _ c.from-residual-in-err-pen.ensures.0
