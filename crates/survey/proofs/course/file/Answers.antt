@@ -12,13 +12,13 @@ follow-requires g c =
     let h = c.args.site.now.heading in
     let buffer = c.args.buffer.now in
     let first : Pen = record { at = 96; row = 0; length = 0 } in
-    let room = (begun_checks (heading_check h) (fits buffer 0 131) c.in-ok-pen.pen first c.in-ok-pen.ensures.answer).1 in
-    (begun_pen (heading_check h) (fits buffer 0 131) c.in-ok-pen.pen first c.in-ok-pen.ensures.answer, omega (arith, leb-true (0 + 131) (length buffer) room))
+    let room = (begun_checks (heading_check h) (fits buffer 0 131) c.in_ok-pen.pen first c.in_ok-pen.ensures.answer).1 in
+    (begun_pen (heading_check h) (fits buffer 0 131) c.in_ok-pen.pen first c.in_ok-pen.ensures.answer, omega (arith, leb-true (0 + 131) (length buffer) room))
 
 pub returns-in-Ok-follow : goal.returns-in-Ok-follow
 returns-in-Ok-follow g c =
     closed_course c.args.site.now.heading c.args.buffer.now c.begin.new.buffer c.follow.new.buffer c.close.new.buffer c.follow.new.pen c.tell.result.found c.close.result
-    c.in-ok-pen.ensures.bytes (omega arith) c.in-Ok-follow.ensures c.close.ensures
+    c.in_ok-pen.ensures.bytes (omega arith) c.in-Ok-follow.ensures c.close.ensures
 
-pub returns-in-err-pen : goal.returns-in-err-pen
-returns-in-err-pen g c = IfOk-from_err c.from-residual-in-err-pen.result _ c.from-residual-in-err-pen.ensures.0
+pub returns-in_err-pen : goal.returns-in_err-pen
+returns-in_err-pen g c = IfOk-from_err c.from_residual-in_err-pen.result _ c.from_residual-in_err-pen.ensures.0

@@ -10,13 +10,13 @@ loop-init g c = (refl, record { rows = []; penned = penned_none c.args.pen.now c
 pub loop-preserved : goal.loop-preserved
 loop-preserved g c =
     let rows = c.loop.invariant.1.rows in
-    let row : Row = record { cell = c.in-ok-cell.cell; length = c.tell-in-loop.result.length } in (
+    let row : Row = record { cell = c.in_ok-cell.cell; length = c.tell-in-loop.result.length } in (
       omega arith,
       record {
         rows = rows ++ row ∷ [];
-        penned = penned_more rows c.args.buffer.now c.loop.pen c.loop.buffer row (rows ++ row ∷ []) c.row.new.self c.row.new.buffer c.loop.invariant.1.penned c.requires.1 refl c.in-ok-row.ensures.pen c.in-ok-row.ensures.bytes;
+        penned = penned_more rows c.args.buffer.now c.loop.pen c.loop.buffer row (rows ++ row ∷ []) c.row.new.self c.row.new.buffer c.loop.invariant.1.penned c.requires.1 refl c.in_ok-row.ensures.pen c.in_ok-row.ensures.bytes;
       },
     )
 
-pub returns-in-err-row : goal.returns-in-err-row
-returns-in-err-row g c = IfOk-from_err c.from-residual-in-err-row.result _ c.from-residual-in-err-row.ensures.0
+pub returns-in_err-row : goal.returns-in_err-row
+returns-in_err-row g c = IfOk-from_err c.from_residual-in_err-row.result _ c.from_residual-in_err-row.ensures.0
