@@ -1,5 +1,5 @@
 -- A board's records, read and changed.
-use Rattle.std.proofs.Common.{◌≡◌, ℕ, zero, suc, ◌<◌, ◌≤◌, List, [], ◌∷◌, length, get_or, set, Some, None, sym, refl, ap, ◌∙◌, arith}
+use Rattle.std.proofs.Common.{◌≡◌, ℕ, zero, suc, List, [], ◌∷◌, set, Some, None, sym, refl, ap, arith}
 use Rattle.std.specs.List.{slice_get}
 use Rattle.board.specs.Board.{changed}
 

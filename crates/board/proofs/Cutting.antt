@@ -1,14 +1,14 @@
 -- Pointers are cut by going round the neighbours of the cells that they lead to.
-use Rattle.std.proofs.Common.{◌≡◌, ℕ, suc, ◌+◌, Bool, true, false, cond, not, ◌&&◌, ◌||◌, eqb, List, Some, None, Option, sym, refl, ap, ◌∙◌, subst, arith, eq-eqb, ne_eqb, eqb-true}
+use Rattle.std.proofs.Common.{◌≡◌, ℕ, suc, Bool, true, false, cond, not, ◌&&◌, ◌||◌, eqb, List, Some, None, Option, sym, refl, ap, ◌∙◌, subst, arith, eq-eqb, ne_eqb, eqb-true}
 use mathlib.Core.Bool.{and-false, or-true}
 use native.Mathlib.Decide.{ℕ_discrete}
 use lib.Dec.{eqb-suc-zero}
-use borrow.Author.Tests.{eqb-false, clash}
+use borrow.Author.Tests.{eqb-false}
 use Rattle.std.specs.Option.{option_map}
 use Rattle.std.specs.List.{slice_get}
 use Rattle.model.specs.Lattice.{Lattice, Lawful, is, test_at}
 use Rattle.model.specs.Measures.{length_scale}
-use Rattle.model.specs.Plain.{World, towards}
+use Rattle.model.specs.Plain.{towards}
 use Rattle.model.proofs.Basics.Directions.{beside_neighbours}
 use Rattle.model.proofs.Basics.Tests.{is_some}
 use Rattle.board.specs.declared.square.Square.{Square}

@@ -1,5 +1,5 @@
 -- The directions from a cell, one after the other.
-use Rattle.std.proofs.Common.{◌≡◌, ℕ, zero, suc, ◌≤◌, Bool, true, false, cond, eqb, ◌⊎◌, Some, None, Option, sym, refl, ap, ◌∙◌, ⊎_elim, arith}
+use Rattle.std.proofs.Common.{◌≡◌, ℕ, zero, suc, ◌≤◌, Bool, true, false, cond, eqb, Some, sym, ap, ◌∙◌, ⊎_elim, arith}
 use lib.Dec.{eqb-suc-zero}
 use borrow.Author.Tests.{clash}
 use Rattle.model.specs.Lattice.{Lattice, Lawful, is, first_direction}

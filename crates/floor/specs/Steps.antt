@@ -1,5 +1,5 @@
 -- A step between two cells, by their columns and rows.
-use Rattle.std.specs.Prelude.{◌≡◌, ℕ, ◌+◌, ◌*◌, ◌/◌, ◌%◌, ◌<◌, ◌≤◌, Bool, true, false, cond, Some, None, Option, nat_lt, refl}
+use Rattle.std.specs.Prelude.{◌≡◌, ℕ, ◌*◌, ◌/◌, ◌%◌, ◌<◌, ◌≤◌, Bool, true, false, cond, Some, None, Option, nat_lt, refl}
 use Rattle.std.proofs.Common.{sym, ◌∙◌, ap, ap₂, subst, div-add-mod', arith, ltb-true, lt-ltb}
 use Rattle.std.proofs.Math.Arith.{digits_div, digits_mod}
 use Rattle.model.specs.Floors.{column_way, row_way, shifted, cell_of, floor_beside}

@@ -1,28 +1,27 @@
 -- A text is accepted as a record exactly if it is the text of that record: both ways, line by line.
-use Rattle.std.proofs.Common.{◌≡◌, ℕ, zero, suc, ◌+◌, ◌*◌, ◌^◌, ◌<◌, ◌≤◌, Bool, true, false, cond, eqb, ◌⊎◌, List, [], ◌∷◌, ◌++◌, length, Some, None, Ok, Err, codes, Option, Result, sym, refl, ap, ◌∙◌, subst, inl, inr, arith}
+use Rattle.std.proofs.Common.{◌≡◌, ℕ, zero, suc, ◌+◌, ◌^◌, ◌<◌, eqb, List, [], ◌∷◌, ◌++◌, length, Some, None, Ok, codes, Option, Result, sym, refl, ap, ◌∙◌, subst, inr, arith}
 use Rattle.std.proofs.lemmas.List.{append-nil, append_assoc, length-append, length_push}
 use Rattle.std.proofs.lemmas.Bool.{cond-false}
 use Rattle.texts.specs.declared.heading.Heading.{Heading}
 use Rattle.texts.specs.Fields.{column, field_text, fields_text, Fit, written_line}
 use Rattle.texts.specs.FirstLines.{heading_of}
 use Rattle.texts.specs.Headings.{heading_numbers, heading_check}
-use Rattle.texts.specs.Lines.{TextLine, after_line, next_number, due_line, end_check, lines_of}
+use Rattle.texts.specs.Lines.{after_line, next_number, due_line, lines_of}
 use Rattle.texts.specs.Steps.{◌>>=◌}
 use Rattle.texts.proofs.Cuts.{Unbroken, full_line, due_shorter}
-use Rattle.texts.proofs.Fielded.{other_column, Written, full_written, heading_there, heading_read, line_whole, written_due, written_after}
+use Rattle.texts.proofs.Fielded.{other_column, full_written, heading_there, heading_read, line_whole, written_due, written_after}
 use Rattle.texts.proofs.Headings.{known_small}
 use Rattle.texts.proofs.Steps.{on, passed, lifted}
 use Rattle.filing.specs.declared.pen.Ending.{Ending}
 use Rattle.filing.specs.declared.pen.Ending.TheVariants.{Done, Shut}
 use Rattle.filing.specs.declared.pen.Row.{Row}
-use Rattle.filing.specs.Pen.{path_line, row_line, ending_word, closing_line, begin_lines, rows_text, last_length, record_text}
+use Rattle.filing.specs.Pen.{path_line, row_line, ending_word, closing_line, rows_text, last_length, record_text}
 use Rattle.records.specs.declared.fault.RecordFault.{RecordFault}
 use Rattle.records.specs.declared.fault.RecordFault.TheVariants as fault
 use Rattle.records.specs.declared.line.Next.{Next}
 use Rattle.records.specs.declared.line.Next.TheVariants as next
-use Rattle.records.specs.declared.line.Closing.{Closing}
 use Rattle.records.specs.Format.{text_of, rows_numbers, Kept, RecordLaw}
-use Rattle.records.specs.Reading.{in_text, in_heading, record_heading, start_row, next_row, closing_line_of, announced, as_announced, next_of}
+use Rattle.records.specs.Reading.{in_text, in_heading, record_heading, start_row, announced, as_announced, next_of}
 use Rattle.records.specs.Records.{Standing, opened, item_of, RecordValue, below, record_of}
 use Rattle.records.proofs.Below.{behind, gone_on, below_next}
 use Rattle.records.proofs.Items.{item_row, item_end, a_row, the_end, both_right}

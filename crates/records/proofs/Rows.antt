@@ -1,5 +1,5 @@
 -- Rows and closing lines: what is written is read, and what is read was written.
-use Rattle.std.proofs.Common.{◌≡◌, ℕ, ◌+◌, ◌-◌, ◌*◌, ◌^◌, ◌<◌, ◌≤◌, Bool, true, false, cond, eqb, List, [], ◌∷◌, length, Some, None, Ok, Err, Option, Result, sym, refl, ap, ◌∙◌, subst, arith}
+use Rattle.std.proofs.Common.{◌≡◌, ℕ, ◌+◌, ◌-◌, ◌^◌, ◌<◌, ◌≤◌, Bool, true, false, cond, eqb, List, [], ◌∷◌, length, Ok, Err, Result, sym, refl, ap, ◌∙◌, subst, arith}
 use Rattle.std.proofs.lemmas.Bool.{cond-true, eq-eqb, eqb-true}
 use Rattle.texts.specs.declared.fault.TextFault.{TextFault}
 use Rattle.texts.specs.declared.heading.Heading.{Heading}
@@ -8,7 +8,7 @@ use Rattle.texts.specs.Lines.{TextLine, in_line}
 use Rattle.texts.specs.Numerals.{field_number}
 use Rattle.texts.specs.Steps.{◌>>=◌}
 use Rattle.texts.specs.Words.{length_check, word_check}
-use Rattle.texts.proofs.Fielded.{Holds, field_there, fields_behind, field_small, field_back, Written, written_length, written_word, written_holds, Worded, word_read, word_back, none_behind}
+use Rattle.texts.proofs.Fielded.{Holds, field_there, fields_behind, field_small, field_back, Written, written_length, written_word, written_holds, word_read, word_back, none_behind}
 use Rattle.texts.proofs.Steps.{on, passed, lifted}
 use Rattle.texts.proofs.Words.{right_length}
 use Rattle.filing.specs.declared.pen.Ending.{Ending}

@@ -1,5 +1,5 @@
 -- What the first line of a site text or a record has to say.
-use Rattle.std.specs.Prelude.{ℕ, ◌+◌, ◌-◌, ◌*◌, Bool, cond, not, ◌&&◌, ◌||◌, List, [], ◌∷◌, Some, None, Ok, Err, Option, Result, ◌==◌, nat_le}
+use Rattle.std.specs.Prelude.{ℕ, ◌-◌, ◌*◌, Bool, cond, not, ◌&&◌, ◌||◌, List, [], ◌∷◌, Some, None, Ok, Err, Option, Result, ◌==◌, nat_le}
 use Rattle.texts.specs.declared.fault.Place.{Place}
 use Rattle.texts.specs.declared.fault.HeadingFault.{HeadingFault}
 use Rattle.texts.specs.declared.fault.HeadingFault.TheVariants.{Unknown, Size}

@@ -1,4 +1,4 @@
-use Rattle.std.proofs.Common.{◌≡◌, ℕ, suc, ◌+◌, true, false, List, Some, None, sym, ap, ◌∙◌, subst, add-one, arith}
+use Rattle.std.proofs.Common.{◌≡◌, ℕ, suc, ◌+◌, List, Some, None, sym, ◌∙◌, subst, add-one, arith}
 use Rattle.board.specs.declared.square.Square.{Square}
 use Rattle.board.specs.Board.{changed, with_pointer}
 use Rattle.board.specs.Around.{Remade}

@@ -1,14 +1,10 @@
-use Rattle.std.proofs.Common.{◌≡◌, ℕ, ◌+◌, ◌*◌, ◌≤◌, Bool, true, cond, List, [], length, get_or, take, Ok, Err, Result, sym, ap, ◌∙◌, arith}
+use Rattle.std.proofs.Common.{◌≡◌, ◌+◌, ◌*◌, List, [], length, get_or, take, sym, ap, ◌∙◌, arith}
 use Rattle.std.proofs.lemmas.List.{take_more, take_all}
-use Rattle.std.proofs.lemmas.Bool.{cond-true}
-use Rattle.texts.specs.declared.fault.HeadingFault.{HeadingFault}
-use Rattle.filing.specs.declared.fault.PenFault.{PenFault}
 use Rattle.filing.specs.declared.fault.PenFault.TheVariants.{Full}
 use Rattle.filing.specs.declared.pen.Pen.{Pen}
 use Rattle.filing.specs.declared.pen.Row.{Row}
-use Rattle.filing.specs.declared.pen.Unclosed.{Unclosed}
 use Rattle.texts.specs.Headings.{heading_check}
-use Rattle.filing.specs.Pen.{checked, pen_behind, rows_fit, record_text}
+use Rattle.filing.specs.Pen.{pen_behind, rows_fit, record_text}
 use Rattle.filing.specs.Written.{fits, overwritten}
 use Rattle.filing.proofs.Filed.{room_for_rows, accepted, begun_pen, closed_bytes, penned_none, penned_more, penned_closed}
 use Rattle.filing.proofs.pen.file.Goals as goal

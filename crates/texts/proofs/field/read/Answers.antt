@@ -1,4 +1,4 @@
-use Rattle.std.proofs.Common.{◌≡◌, length, sym, ◌∙◌, arith}
+use Rattle.std.proofs.Common.{◌∙◌, arith}
 use Rattle.std.proofs.lemmas.List.{take_rest}
 use Rattle.texts.proofs.Numerals.{not_ten_columns, ten_columns, narrowed}
 use Rattle.texts.proofs.Written.{reads_as}

@@ -1,4 +1,4 @@
-use Rattle.std.proofs.Common.{codes, refl, arith}
+use Rattle.std.proofs.Common.{codes, arith}
 use Rattle.texts.proofs.Words.{another}
 use Rattle.texts.proofs.word.bytes_of.Goals as goal
 

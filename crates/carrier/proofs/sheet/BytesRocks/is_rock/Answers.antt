@@ -1,4 +1,4 @@
-use Rattle.std.proofs.Common.{ℕ, ◌≤◌, List, length, vec_items, sym, ap, subst}
+use Rattle.std.proofs.Common.{ℕ, ◌≤◌, List, length, vec_items, sym, subst}
 use Rattle.carrier.specs.SheetsLemmas.{past_open}
 use Rattle.carrier.proofs.sheet.BytesRocks.is_rock.Goals as goal
 

@@ -1,8 +1,7 @@
-use Rattle.std.proofs.Common.{◌≡◌, ◌+◌, Ok, sym, refl, ap, ◌∙◌, arith}
+use Rattle.std.proofs.Common.{◌+◌, Ok, sym, ap, ◌∙◌, arith}
 use Rattle.texts.specs.Lines.{line_text}
 use Rattle.texts.proofs.Steps.{handed_on}
-use Rattle.records.specs.declared.line.Next.TheVariants as next
-use Rattle.records.specs.Records.{Standing, standing, moved_on}
+use Rattle.records.specs.Records.{standing, moved_on}
 use Rattle.records.proofs.Items.{no_line, line_wrong, a_row, goes_on, the_end, row_counts}
 use Rattle.records.proofs.reader.Reader.next.Goals as goal
 

@@ -1,4 +1,4 @@
-use Rattle.std.proofs.Common.{◌≡◌, ap, ◌∙◌}
+use Rattle.std.proofs.Common.{ap, ◌∙◌}
 use Rattle.std.specs.Result.{result_map_both}
 use Rattle.texts.specs.Lines.{line_text, next_number}
 use Rattle.texts.proofs.Steps.{handed_on}
