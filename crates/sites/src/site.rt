@@ -184,7 +184,7 @@ mod tests {
         };
         assert_eq!(rt; site.heading.goal, 5);
         let cells = site.cells(rt.alloc())?;
-        assert!(rt; cells.as_slice() == b"..##..");
+        assert!(rt; cells.as_slice() == b"..##..".as_slice());
         Ok(())
     }
 
