@@ -117,10 +117,7 @@ pub fn pointer<M: Copy>(board: &[Square<M>], cell: u32) -> u8
 pub fn paint<M: Copy>(board: &[Square<M>], cell: u32) -> u16
     ensures { result ≡ paint_at board.now cell }
 {
-    match record_of(board, cell) {
-        Some(square) => square.paint,
-        None => 0,
-    }
+    record_of(board, cell).map_or(0, |square| square.paint)
 }
 
 // The stage of a cell in the search of a number: a record that carries another number is idle, and so is what lies beyond the board.

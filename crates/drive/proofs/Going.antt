@@ -1,5 +1,5 @@
 -- A go does what the plain drive's does.
-use Rattle.std.proofs.Common.{◌≡◌, ℕ, ◌+◌, Bool, true, false, cond, not, eqb, List, length, Some, None, Option, sym, refl, ap, ◌∙◌, subst, add-one, arith}
+use Rattle.std.proofs.Common.{◌≡◌, ℕ, ◌+◌, Bool, true, false, cond, eqb, List, length, Some, None, Option, sym, refl, ap, ◌∙◌, subst, add-one, arith}
 use borrow.Author.Tests.{both_ways}
 use Rattle.std.specs.List.{slice_get}
 use Rattle.model.specs.declared.Phase.TheVariants as phase

@@ -1,10 +1,9 @@
 -- A look does what the plain drive's does.
-use Rattle.std.proofs.Common.{◌≡◌, ℕ, ◌+◌, ◌*◌, ◌<◌, ◌≤◌, Bool, true, false, cond, not, eqb, ltb, List, ◌++◌, length, take, drop, Some, None, sym, refl, ap, ◌∙◌, subst, ⊎_elim, arith, ltb-false, ltb-true, unwrap_or, take-append-drop}
+use Rattle.std.proofs.Common.{◌≡◌, ℕ, ◌+◌, ◌*◌, ◌<◌, ◌≤◌, Bool, true, false, cond, not, eqb, ltb, List, ◌++◌, length, take, drop, Some, None, sym, refl, ap, ◌∙◌, subst, ⊎_elim, arith, ltb-false, ltb-true, take-append-drop}
 use lib.Count.{ones}
 use Rattle.std.specs.Option.{option_map}
 use Rattle.std.specs.List.{slice_get}
 use Rattle.std.proofs.lemmas.Option.{slice_get_past}
-use Rattle.model.specs.declared.Phase.{Phase}
 use Rattle.model.specs.declared.Phase.TheVariants as phase
 use Rattle.model.specs.Lattice.{Lattice, Guide, rock_bits}
 use Rattle.model.specs.Ground.{Ground, feels}
@@ -17,13 +16,11 @@ use Rattle.model.proofs.Basics.Tests.{decide}
 use Rattle.model.proofs.Reachable.{Sound, reachable_call, reachable_sound}
 use Rattle.model.proofs.Run.ByLook.{looked_as}
 use Rattle.measure.specs.declared.queue.Entry.{Entry}
-use Rattle.measure.specs.Queue.{Added, Pushed}
 use Rattle.board.specs.declared.square.Square.{Square}
 use Rattle.board.specs.declared.square.Stage.TheVariants as stage
 use Rattle.board.specs.Board.{changed, with_stage, mark_in, pointer_in, mark_at, pointer_at, stage_shown, shown_as}
 use Rattle.board.specs.Around.{Remade, new_bits_of, seen_square}
 use Rattle.board.proofs.Marking.{mapped_twice}
-use Rattle.reconnect.specs.declared.state.Search.{Search}
 use Rattle.reconnect.specs.Represents.{Represents}
 use Rattle.reconnect.specs.Beginning as search
 use Rattle.drive.specs.declared.call.Call.TheVariants.{Look}
@@ -31,13 +28,13 @@ use Rattle.drive.specs.declared.drive.Drive.{Drive}
 use Rattle.drive.specs.declared.refusal.Refusal.{Refusal}
 use Rattle.drive.specs.Refusals.{refusal_number}
 use Rattle.drive.specs.Calls.{phase_refusal}
-use Rattle.drive.specs.Looking.{next_search, look_refusal, found_more, turned, made_ready, made_searching, Begins, GoesOn, Looked}
+use Rattle.drive.specs.Looking.{next_search, look_refusal, found_more, turned, made_searching, Begins, GoesOn, Looked}
 use Rattle.drive.specs.Owning.{DriveMemory, Own, calls_after, Agrees}
 use Rattle.drive.proofs.Refusing.{look_phase}
 use Rattle.drive.proofs.Memory.{some_mapped, first_length, first_same, put_length, put_same, on_board}
 use Rattle.drive.proofs.Seeing.{Seen, seen_as, felt_as, count_as}
 use Rattle.drive.proofs.Narrowing.{taken_looked}
-use Rattle.drive.proofs.Searching.{pushed_first, square_same, begins_search}
+use Rattle.drive.proofs.Searching.{square_same, begins_search}
 use Rattle.drive.proofs.Owning.{exactly, few, own_sound, own_refusal, own_queue, own_cell, refuses}
 
 -- a beginning of a search, as the search has it
@@ -194,7 +191,7 @@ module _ (w : World) {G M : Type 0} (value : M → w.scale.Value) (kept : M → 
         record {
           drive = b.0 ∙ ap (turned (found_more d count) phase.Searching) (sym (ap (λ z. z.search) b.0));
           memory = begins (subst (λ c. search.Begins w.scale value kept c (record { search = d.search; board = seen; queue = m.queue }) (record { search = d'.search; board = board'; queue = queue' })) own.cell
-          (begins_again w.scale value kept (found_more d count) d' seen board' m.queue queue' b.0 b.1));
+              (begins_again w.scale value kept (found_more d count) d' seen board' m.queue queue' b.0 b.1));
         }
     after false e =
         let r = done.goes_on.ready (ap (λ c. eqb (pointer_at seen c) 0) own.cell ∙ ap (λ p. eqb p 0) points ∙ e) in

@@ -1,5 +1,5 @@
 -- What begin leaves stands for the fresh plain drive.
-use Rattle.std.proofs.Common.{◌≡◌, ℕ, List, Some, None, sym, refl, ap, ◌∙◌}
+use Rattle.std.proofs.Common.{◌≡◌, List, Some, None, refl, ap, ◌∙◌}
 use Rattle.std.specs.Option.{option_map}
 use Rattle.model.specs.Plain.{World, fresh}
 use Rattle.board.specs.declared.square.Square.{Square}

@@ -1,21 +1,20 @@
 -- The first entry of the queue whose cell waits is that of the cell to be taken.
-use Rattle.std.proofs.Common.{◌≡◌, ℕ, ◌+◌, ◌<◌, ◌≤◌, Bool, true, false, not, ◌&&◌, ◌||◌, leb, ◌⊎◌, List, [], length, take, sym, refl, ap, ◌∙◌, subst, ⊎_elim, arith, leb-true}
+use Rattle.std.proofs.Common.{◌≡◌, ℕ, ◌<◌, ◌≤◌, Bool, true, false, not, ◌&&◌, ◌||◌, ◌⊎◌, List, length, take, sym, refl, ap, ◌∙◌, subst, ⊎_elim, arith, leb-true}
 use native.Mathlib.Decide.{ℕ_discrete}
 use borrow.Author.Tests.{both_ways}
-use Rattle.std.specs.List.{ContainsAt as Has, AllByRecursion as All}
-use Rattle.std.proofs.ByRecursion.{all-has, All-weaker}
+use Rattle.std.specs.List.{ContainsAt as Has}
+use Rattle.std.proofs.ByRecursion.{All-weaker}
 use Rattle.model.specs.Scale.{Scale, Ordered}
 use Rattle.model.specs.Plain as plain
 use Rattle.model.specs.Plain.{put}
 use Rattle.model.proofs.Basics.Tables.{put_here, put_else}
 use Rattle.measure.specs.declared.queue.Entry.{Entry}
-use Rattle.measure.specs.Queue.{precedes, Removed}
-use Rattle.measure.proofs.Uses.{removed_all, removed_has, removed_has_least, removed_foremost}
+use Rattle.measure.specs.Queue.{Removed}
+use Rattle.measure.proofs.Uses.{removed_all, removed_has, removed_foremost}
 use Rattle.board.specs.declared.square.Square.{Square}
 use Rattle.board.specs.declared.square.Stage.{Stage}
 use Rattle.board.specs.declared.square.Stage.TheVariants as stage
 use Rattle.board.specs.Board.{stage_at, stage_shown}
-use Rattle.reconnect.specs.declared.frontier.Chosen.{Chosen}
 use Rattle.reconnect.specs.Frontier.{Due, DueAt, Queued}
 use Rattle.reconnect.specs.Reaching.{StagesAs, Chooses}
 use Rattle.reconnect.proofs.Queues.{removed_length}

@@ -1,7 +1,6 @@
 -- The waiting cell of least measure, the lowest among equals, is the one that the plain drive takes.
 use Rattle.std.proofs.Common.{◌≡◌, ℕ, zero, suc, ◌<◌, ◌≤◌, Bool, true, false, cond, Some, None, Option, sym, refl, ap, ◌∙◌, subst, arith}
 use native.Mathlib.Decide.{ℕ_discrete}
-use borrow.Author.Tests.{both_ways}
 use Rattle.model.specs.Scale.{Ordered}
 use Rattle.model.specs.Plain.{World, Squares, worth, waits, sooner, least}
 use Rattle.model.proofs.Search.Least.{Best, best}

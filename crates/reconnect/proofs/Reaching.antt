@@ -1,10 +1,10 @@
 -- A neighbour of a taken cell is reached.
-use Rattle.std.proofs.Common.{◌≡◌, ℕ, suc, ◌+◌, ◌<◌, ◌≤◌, Bool, true, false, cond, not, eqb, List, length, take, Some, None, Option, unwrap_or, sym, refl, ap, ◌∙◌, subst, arith}
+use Rattle.std.proofs.Common.{◌≡◌, ℕ, ◌+◌, ◌<◌, ◌≤◌, Bool, true, false, cond, not, List, length, take, Some, None, Option, unwrap_or, sym, refl, ap, ◌∙◌, subst, arith}
 use mathlib.Core.Path.{fun_ext}
 use native.Mathlib.Decide.{ℕ_discrete}
 use borrow.Author.Tests.{both_ways, not-true, not-false}
 use Rattle.std.specs.Option.{option_map}
-use Rattle.std.specs.List.{slice_get, ContainsAt as Has, AllByRecursion as All}
+use Rattle.std.specs.List.{slice_get, ContainsAt as Has}
 use Rattle.std.proofs.ByRecursion.{All-weaker}
 use Rattle.model.specs.Scale.{Scale, Ordered}
 use Rattle.model.specs.Plain as plain
@@ -21,7 +21,7 @@ use Rattle.board.specs.declared.square.Stage.TheVariants as stage
 use Rattle.board.specs.Board.{changed, mark_at, with_stage, stage_at, stage_shown, shown_as, Shown}
 use Rattle.board.proofs.Showing.{mark_shown, stage_shown_in, shown_changed, staged_shown, stage_set, stage_else}
 use Rattle.reconnect.specs.declared.frontier.Taken.{Taken}
-use Rattle.reconnect.specs.Frontier.{Exact, taken_cells, Due, DueAt, Queued, Frontier}
+use Rattle.reconnect.specs.Frontier.{Exact, taken_cells, Due, DueAt, Frontier}
 use Rattle.reconnect.specs.Reaching.{improves, reached_square, reached_from}
 use Rattle.reconnect.proofs.Queues.{added_length}
 

@@ -1,5 +1,5 @@
 -- The pointers along a way back are set one after the other.
-use Rattle.std.proofs.Common.{◌≡◌, ℕ, zero, suc, ◌<◌, Bool, true, false, cond, eqb, List, sym, refl, ap, ◌∙◌, subst, eq-eqb, ne_eqb}
+use Rattle.std.proofs.Common.{◌≡◌, ℕ, suc, true, cond, List, sym, refl, ap, ◌∙◌, subst, eq-eqb, ne_eqb}
 use Rattle.std.specs.List.{slice_get}
 use Rattle.model.specs.Lattice.{is, first_direction}
 use Rattle.model.specs.Plain as plain

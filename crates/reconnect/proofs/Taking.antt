@@ -1,10 +1,9 @@
 -- A take, in memory and in the plain drive.
-use Rattle.std.proofs.Common.{◌≡◌, ℕ, suc, ◌+◌, ◌-◌, ◌*◌, ◌<◌, ◌≤◌, Bool, true, false, cond, List, length, Some, None, Option, sym, refl, ap, ◌∙◌, subst, arith}
+use Rattle.std.proofs.Common.{◌≡◌, ℕ, suc, ◌+◌, ◌-◌, ◌*◌, ◌<◌, ◌≤◌, true, false, List, length, Some, None, Option, sym, refl, ap, ◌∙◌, subst, arith}
 use mathlib.Core.Path.{fun_ext}
 use native.Mathlib.Decide.{ℕ_discrete}
 use borrow.Author.Tests.{both_ways}
 use Rattle.std.specs.List.{slice_get}
-use Rattle.model.specs.declared.Phase.{Phase}
 use Rattle.model.specs.declared.Phase.TheVariants as phase
 use Rattle.model.specs.Scale.{Ordered}
 use Rattle.model.specs.Plain as plain
@@ -19,10 +18,9 @@ use Rattle.board.specs.declared.square.Stage.{Stage}
 use Rattle.board.specs.declared.square.Stage.TheVariants as stage
 use Rattle.board.specs.Board.{changed, with_stage, stage_at, stage_shown, Shown}
 use Rattle.board.proofs.Showing.{stage_shown_in, shown_changed, staged_shown, stage_set, stage_else, numbers_kept}
-use Rattle.reconnect.specs.declared.state.Search.{Search}
 use Rattle.reconnect.specs.declared.state.Walk.TheVariants as walk
 use Rattle.reconnect.specs.declared.frontier.Chosen.{Chosen}
-use Rattle.reconnect.specs.Frontier.{Exact, taken_cells, Queued, Frontier}
+use Rattle.reconnect.specs.Frontier.{Exact, taken_cells, Queued}
 use Rattle.reconnect.specs.Reaching.{StagesAs, Chooses}
 use Rattle.reconnect.specs.Represents.{Memory, spread_cells, Represents}
 use Rattle.reconnect.proofs.Leasts.{First, least_none, least_first}

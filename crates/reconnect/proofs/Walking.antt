@@ -1,5 +1,5 @@
 -- A step of a walk, in memory and in the plain drive.
-use Rattle.std.proofs.Common.{◌≡◌, ℕ, suc, ◌+◌, ◌-◌, ◌*◌, ◌<◌, ◌≤◌, Bool, true, false, cond, eqb, ◌⊎◌, List, length, Some, None, Option, sym, refl, ap, ◌∙◌, subst, inl, inr, arith, eq-eqb, ne_eqb, eqb-true}
+use Rattle.std.proofs.Common.{◌≡◌, ℕ, ◌+◌, ◌-◌, ◌*◌, ◌<◌, ◌≤◌, Bool, true, false, cond, eqb, ◌⊎◌, List, length, Some, None, Option, sym, refl, ap, ◌∙◌, subst, inl, inr, arith, eq-eqb, ne_eqb, eqb-true}
 use mathlib.Core.Path.{fun_ext}
 use borrow.Author.Tests.{eqb-false}
 use Rattle.std.specs.List.{slice_get}
@@ -14,18 +14,17 @@ use Rattle.model.proofs.Basics.Counting.{count_same, count_fewer, count_at_most}
 use Rattle.model.proofs.Search.Reach.{taken_live}
 use Rattle.model.proofs.Search.Sought.{WalkInside, Sought}
 use Rattle.model.proofs.Search.Steps.{painting, joined, stopped, walked}
-use Rattle.model.proofs.Reachable.{Sound, rocks, unseens, reachable_sound}
+use Rattle.model.proofs.Reachable.{rocks, unseens, reachable_sound}
 use Rattle.measure.specs.declared.queue.Entry.{Entry}
 use Rattle.board.specs.declared.square.Square.{Square}
 use Rattle.board.specs.Board.{changed, with_paint, pointer_at, paint_at, stage_at, Shown}
 use Rattle.board.proofs.Showing.{pointer_shown, paint_shown, shown_changed, stage_kept, numbers_kept}
-use Rattle.reconnect.specs.declared.state.Search.{Search}
 use Rattle.reconnect.specs.declared.state.Walk.TheVariants as walk
 use Rattle.reconnect.specs.Frontier.{Numbered, Exact, taken_cells, Queued, Frontier}
 use Rattle.reconnect.specs.Retracing.{Homewards}
 use Rattle.reconnect.specs.Walking.{unpainted}
 use Rattle.reconnect.specs.Represents.{Memory, spread_cells, Represents}
-use Rattle.reconnect.proofs.Spreading.{spread_by, taken_same, spread_end}
+use Rattle.reconnect.proofs.Spreading.{taken_same, spread_end}
 
 -- what it says that a cell is not painted, or that there is none that is not
 pub unpainted_some : {M : Type 0} (board : List (Square M)) (n : ℕ) (o : Option ℕ) (c : ℕ) → Some c ≡ unpainted board n o → (o ≡ Some c) × (paint_at board c ≡ n → ⊥)

@@ -1,19 +1,16 @@
 -- What a site that is accepted keeps to.
-use Rattle.std.proofs.Common.{◌≡◌, ℕ, zero, suc, ◌+◌, ◌-◌, ◌*◌, ◌<◌, ◌≤◌, Bool, true, false, cond, ◌||◌, eqb, ltb, leb, ◌⊎◌, List, [], ◌∷◌, ◌++◌, length, get_or, take, drop, IfOk, Ok, Err, codes, Result, sym, refl, ap, ◌∙◌, subst, inl, inr, suc-mul, mul_comm, zero-mul, arith}
+use Rattle.std.proofs.Common.{◌≡◌, ℕ, zero, suc, ◌+◌, ◌-◌, ◌*◌, ◌<◌, ◌≤◌, Bool, true, false, cond, eqb, ltb, leb, ◌⊎◌, List, [], ◌∷◌, ◌++◌, length, get_or, take, drop, IfOk, Ok, Err, codes, Result, sym, refl, ap, ◌∙◌, subst, inl, inr, suc-mul, mul_comm, zero-mul, arith}
 use Rattle.std.specs.Result.{result_map_both}
-use Rattle.std.proofs.lemmas.List.{length-append, length-take-le, length-drop, get_or_append_left, get_or-append_right, take_at, drop-take, take-take}
+use Rattle.std.proofs.lemmas.List.{length-append, length-take-le, length-drop, get_or_append_left, get_or-append_right, drop-take, take-take}
 use Rattle.std.proofs.lemmas.Bool.{cases_lt, leb-false, eqb-true, eqb-false, or_cases}
-use Rattle.texts.specs.declared.fault.TextFault.{TextFault}
 use Rattle.sites.specs.declared.fault.SiteFault.{SiteFault}
 use Rattle.sites.specs.declared.fault.SiteFault.TheVariants as fault
 use Rattle.texts.specs.declared.heading.Heading.{Heading}
 use Rattle.sites.specs.declared.site.Site.{Site}
-use Rattle.texts.specs.Headings.{heading_field, heading_check}
-use Rattle.texts.specs.Lines.{TextLine, line_of, after_line, due_line, end_check, in_line}
+use Rattle.texts.specs.Lines.{TextLine, after_line, due_line, end_check, in_line}
 use Rattle.sites.specs.Site.{in_text, site_heading, is_mark, marks_check, row_check, rows_check, word_alone, after_lines, cells_of, ends_check, SiteValue, site_value, site_under, site_of, Accepted}
 use Rattle.sites.specs.Format.{plan_of, Bounded}
 use Rattle.texts.specs.Words.{length_check}
-use Rattle.texts.proofs.Cuts.{line_is_front}
 use Rattle.sites.proofs.Rows.{row_long, rows_long}
 use Rattle.texts.proofs.Steps.{passed, lifted}
 use Rattle.sites.proofs.Under.{Headed, headed}

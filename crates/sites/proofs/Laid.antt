@@ -1,18 +1,16 @@
 -- A text is accepted as a site exactly if it is the text of that site: both ways, line by line.
-use Rattle.std.proofs.Common.{◌≡◌, ℕ, zero, suc, ◌+◌, ◌*◌, ◌^◌, ◌<◌, ◌≤◌, Bool, true, false, cond, eqb, ltb, leb, ◌⊎◌, List, [], ◌∷◌, ◌++◌, length, get_or, take, drop, Ok, Err, codes, Result, sym, refl, ap, ◌∙◌, subst, inl, inr, suc-mul, mul_comm, zero-mul, mul-one, mul-add, arith}
+use Rattle.std.proofs.Common.{◌≡◌, ℕ, zero, suc, ◌+◌, ◌*◌, ◌<◌, ◌≤◌, true, false, eqb, ltb, ◌⊎◌, List, [], ◌∷◌, ◌++◌, length, get_or, take, drop, Ok, Err, codes, Result, sym, refl, ap, ◌∙◌, subst, inl, inr, suc-mul, mul_comm, zero-mul, mul-one, mul-add, arith}
 use Rattle.std.specs.Result.{result_map_both}
-use Rattle.std.proofs.lemmas.List.{append-nil, append_assoc, length-append, length-take-le, length-drop, take_at, drop_at, take-append-drop, take_all, get_or-take, get_or-drop, nil_from_length}
+use Rattle.std.proofs.lemmas.List.{append-nil, append_assoc, length-append, length-take-le, length-drop, take_at, drop_at, take-append-drop, get_or-take, get_or-drop, nil_from_length}
 use Rattle.std.proofs.lemmas.Bool.{cond-true, cond-false, eqb-true, ne_eqb, eq-eqb, le-ltb, lt-leb, or_cases, and_from}
-use Rattle.texts.specs.declared.fault.TextFault.{TextFault}
 use Rattle.texts.specs.declared.heading.Heading.{Heading}
-use Rattle.texts.specs.Fields.{fields_text, Fit, written_line}
-use Rattle.texts.specs.FirstLines.{heading_of}
-use Rattle.texts.specs.Headings.{heading_numbers, heading_check}
-use Rattle.texts.specs.Lines.{TextLine, after_line, due_line, end_check, in_line}
+use Rattle.texts.specs.Fields.{fields_text, written_line}
+use Rattle.texts.specs.Headings.{heading_numbers}
+use Rattle.texts.specs.Lines.{TextLine, after_line, due_line, end_check}
 use Rattle.texts.specs.Steps.{◌>>=◌}
 use Rattle.texts.specs.Words.{length_check, word_check}
 use Rattle.texts.proofs.Cuts.{Unbroken, full_line, due_before, after_before, due_whole, nothing_behind}
-use Rattle.texts.proofs.Fielded.{length_written_line, Written, heading_there, heading_read, word_read, word_back, none_behind, line_whole, written_due, written_after, written_length, written_word, full_written}
+use Rattle.texts.proofs.Fielded.{length_written_line, Written, heading_there, heading_read, word_read, word_back, none_behind, line_whole, written_due, written_after, written_word, full_written}
 use Rattle.texts.proofs.Headings.{sides, known_small}
 use Rattle.texts.proofs.Steps.{on, passed, lifted}
 use Rattle.texts.proofs.Words.{right_length}
@@ -22,7 +20,7 @@ use Rattle.sites.specs.Format.{Plan, plan_of, rows_text, site_text, Bounded, Sit
 use Rattle.sites.specs.Site.{in_text, in_heading, site_heading, is_mark, marks_check, row_check, rows_check, word_alone, after_lines, cells_of, ends_check, SiteValue, site_value, site_under, site_of}
 use Rattle.sites.specs.declared.site.Site.{Site}
 use Rattle.sites.proofs.Accepting.{accepted, bounded, cells_front, refuses}
-use Rattle.sites.proofs.Rows.{row_long, rows_long}
+use Rattle.sites.proofs.Rows.{row_long}
 use Rattle.sites.proofs.Under.{headed}
 
 -- ---- what is accepted is laid out so

@@ -1,8 +1,8 @@
 -- The cells of a sheet: where their bytes stand, and what holds of start and goal.
-use Rattle.std.proofs.Common.{◌≡◌, ℕ, zero, suc, ◌+◌, ◌-◌, ◌*◌, ◌/◌, ◌%◌, ◌<◌, ◌≤◌, List, ◌++◌, length, get_or, take, drop, Ok, Err, sym, refl, ap, ◌∙◌, subst, add_assoc, mul-le-mul_right, mod-lt, suc-mul, mul_comm, div-lt_iff_lt-mul, div-add-mod', zero-add, zero-mul, arith}
+use Rattle.std.proofs.Common.{◌≡◌, ℕ, zero, suc, ◌+◌, ◌*◌, ◌/◌, ◌%◌, ◌<◌, ◌≤◌, List, ◌++◌, length, get_or, take, drop, Ok, Err, sym, refl, ap, ◌∙◌, subst, mod-lt, suc-mul, mul_comm, div-lt_iff_lt-mul, div-add-mod', zero-add, zero-mul, arith}
 use lib.Arith.{digits_lt}
 use Rattle.std.proofs.lemmas.List.{length-take-le, length-drop, get_or_append_left, get_or-append_right, get_or-take, get_or-drop}
-use Rattle.std.proofs.lemmas.Bool.{cases_lt, le-leb, lt-leb, eq-eqb, ne_eqb}
+use Rattle.std.proofs.lemmas.Bool.{le-leb, lt-leb, eq-eqb, ne_eqb}
 use Rattle.sites.specs.declared.fault.SiteFault.TheVariants as fault
 use Rattle.texts.specs.declared.heading.Heading.{Heading}
 use Rattle.texts.specs.Headings.{heading_field}

@@ -1,15 +1,14 @@
 -- The lines of a site text one by one, each as its check found it.
-use Rattle.std.proofs.Common.{◌≡◌, ℕ, ◌+◌, ◌*◌, ◌<◌, ◌≤◌, Bool, true, false, cond, ltb, List, length, take, Ok, Err, codes, Result, sym, refl, ap, ◌∙◌, subst, arith}
+use Rattle.std.proofs.Common.{◌≡◌, ℕ, ◌+◌, ◌*◌, ◌<◌, ◌≤◌, Bool, true, false, cond, ltb, List, length, take, Ok, Err, codes, sym, refl, ap, ◌∙◌, subst, arith}
 use Rattle.std.proofs.lemmas.Bool.{ltb-false, lt-ltb, le-ltb}
 use Rattle.texts.specs.declared.fault.TextFault.{TextFault}
-use Rattle.texts.specs.declared.fault.HeadingFault.{HeadingFault}
 use Rattle.sites.specs.declared.fault.SiteFault.{SiteFault}
 use Rattle.sites.specs.declared.fault.SiteFault.TheVariants as fault
 use Rattle.texts.specs.declared.heading.Heading.{Heading}
 use Rattle.texts.specs.FirstLines.{heading_of}
 use Rattle.texts.specs.Headings.{heading_field, heading_check}
 use Rattle.texts.specs.Lines.{TextLine, after_line, next_number, due_line, end_check}
-use Rattle.sites.specs.Site.{in_text, in_heading, site_heading, word_alone, rows_check, after_lines, ends_check, SiteValue, site_under, site_of}
+use Rattle.sites.specs.Site.{in_text, in_heading, site_heading, word_alone, rows_check, after_lines, ends_check, site_under, site_of}
 use Rattle.texts.proofs.Steps.{on, passed, lifted, moved}
 
 -- a first line that is accepted

@@ -1,5 +1,5 @@
 -- What was read and driven is filed.
-use Rattle.std.proofs.Common.{◌≡◌, ℕ, ◌+◌, ◌*◌, ◌≤◌, List, [], length, IfOk, Ok, Err, Result, ap, subst, arith}
+use Rattle.std.proofs.Common.{◌≡◌, ℕ, ◌+◌, ◌*◌, ◌≤◌, List, length, IfOk, Ok, Err, Result, ap, subst, arith}
 use Rattle.sites.specs.declared.fault.SiteFault.{SiteFault}
 use Rattle.texts.specs.declared.heading.Heading.{Heading}
 use Rattle.filing.specs.declared.pen.Ending.TheVariants.{Done}

@@ -6,7 +6,6 @@ use Rattle.texts.specs.declared.fault.HeadingFault.TheVariants as heading
 use Rattle.texts.specs.Headings.{heading_field}
 use Rattle.sites.specs.declared.fault.SiteFault.{SiteFault}
 use Rattle.sites.specs.declared.fault.SiteFault.TheVariants as site
-use Rattle.texts.specs.declared.fault.Report.{Report}
 use Rattle.filing.specs.Faults.{pen_report}
 use Rattle.sites.specs.Faults.{site_report}
 use Rattle.texts.specs.Faults.{report_alone}

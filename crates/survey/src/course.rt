@@ -7,10 +7,10 @@ ghost use Rattle.filing.specs.Written.{overwritten};
 ghost use Rattle.survey.specs.Surveying.{SiteFirst, Filed, Course};
 
 use crate::fault::Fault;
+use board::square::Square;
 use carrier::Carrier;
 use carrier::sheet::Sheet;
 use drive::begin::begin;
-use board::square::Square;
 use drive::drive::Drive;
 use drive::refusal::Refusal;
 use filing::pen::{Pen, Unclosed};
@@ -21,9 +21,9 @@ use floor::{Guide, Lattice, Metric};
 use measure::queue::Entry;
 use measure::{Length, Measure, Sure};
 use model::{Mark, Phase};
-use std::alloc::Global;
 use sites::fault::SiteFault;
 use sites::site::{Site, read_site};
+use std::alloc::Global;
 use texts::fault::HeadingFault;
 use texts::heading::{LatticeKind, MEASURE, MeasureKind, NEIGHBOURS, in_column};
 

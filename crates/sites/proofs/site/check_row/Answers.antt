@@ -1,4 +1,4 @@
-use Rattle.std.proofs.Common.{◌≡◌, sym, refl, ap, ◌∙◌, arith}
+use Rattle.std.proofs.Common.{ap, ◌∙◌, arith}
 use Rattle.texts.specs.Lines.{line_text}
 use Rattle.sites.specs.Site.{row_check, in_text}
 use Rattle.texts.proofs.Steps.{on, handed_on}

@@ -1,8 +1,8 @@
-use Rattle.std.proofs.Common.{◌≡◌, ℕ, ◌+◌, ◌-◌, ◌*◌, ◌≤◌, List, length, take, sym, refl, ap, ◌∙◌, mul-le-mul, arith}
+use Rattle.std.proofs.Common.{◌≡◌, ℕ, ◌+◌, ◌-◌, ◌*◌, ◌≤◌, List, length, take, sym, ap, ◌∙◌, mul-le-mul, arith}
 use Rattle.std.specs.Result.{result_map_both}
 use Rattle.std.proofs.lemmas.List.{length-take-le}
 use Rattle.texts.specs.Lines.{next_number}
-use Rattle.sites.specs.Site.{site_value, rows_check}
+use Rattle.sites.specs.Site.{site_value}
 use Rattle.sites.proofs.Rows.{rows_long}
 use Rattle.texts.proofs.Steps.{handed_on}
 use Rattle.sites.proofs.Under.{plan_wrong, rows_wrong, end_wrong, more_behind, ends_wrong, all_right}

@@ -1,4 +1,4 @@
-use Rattle.std.proofs.Common.{◌≡◌, Err, ap, ◌∙◌, arith}
+use Rattle.std.proofs.Common.{Err, ap, ◌∙◌, arith}
 use Rattle.std.specs.Result.{result_map_both}
 use Rattle.sites.specs.declared.fault.SiteFault.TheVariants.{TooLong}
 use Rattle.std.proofs.lemmas.Result.{IfOk-from_err}

@@ -1,4 +1,4 @@
-use Rattle.std.proofs.Common.{◌≡◌, ◌+◌, ◌≤◌, length, sym, refl, ◌∙◌, arith, leb-true}
+use Rattle.std.proofs.Common.{◌+◌, length, arith, leb-true}
 use Rattle.std.proofs.lemmas.Result.{IfOk-from_err}
 use Rattle.filing.specs.declared.pen.Pen.{Pen}
 use Rattle.texts.specs.Headings.{heading_check}

@@ -1,4 +1,4 @@
-use Rattle.std.proofs.Common.{◌≡◌, ℕ, sym, refl, ap, ◌∙◌, subst, arith}
+use Rattle.std.proofs.Common.{sym, ap, ◌∙◌, arith}
 use Rattle.board.specs.Board.{stage_at}
 use Rattle.reconnect.specs.Reaching.{with_entries}
 use Rattle.reconnect.proofs.Choosing.{none_waits, passed, chooses}

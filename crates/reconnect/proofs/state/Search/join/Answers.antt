@@ -1,4 +1,4 @@
-use Rattle.std.proofs.Common.{◌≡◌, ℕ, List, sym, refl, ap, ◌∙◌, subst, arith}
+use Rattle.std.proofs.Common.{◌≡◌, ℕ, refl, ap, ◌∙◌, subst, arith}
 use Rattle.model.specs.declared.Phase.TheVariants as phase
 use Rattle.model.specs.Plain as plain
 use Rattle.model.specs.Plain.{World, is_taken}

@@ -1,13 +1,11 @@
-use Rattle.std.proofs.Common.{◌≡◌, ℕ, ◌+◌, ◌<◌, ◌≤◌, true, false, List, unwrap_or, sym, refl, ap, ◌∙◌, subst, arith}
-use Rattle.model.specs.Ground.{Ground}
-use Rattle.model.specs.Lattice.{Lattice, Guide}
-use Rattle.model.specs.Plain.{World, Squares, is_rock_mark, is_unseen_mark, is_taken}
+use Rattle.std.proofs.Common.{◌≡◌, ℕ, true, false, List, unwrap_or, sym, refl, ap, ◌∙◌, subst, arith}
+use Rattle.model.specs.Plain.{World, is_rock_mark, is_unseen_mark, is_taken}
 use Rattle.model.specs.Worlds.{over}
 use Rattle.board.specs.declared.square.Square.{Square}
 use Rattle.board.specs.declared.square.Stage.TheVariants as stage
 use Rattle.board.specs.Board.{with_stage, stage_shown}
 use Rattle.board.proofs.Showing.{numbers_kept}
-use Rattle.reconnect.specs.Frontier.{taken_cells, Numbered, Frontier}
+use Rattle.reconnect.specs.Frontier.{Numbered, Frontier}
 use Rattle.reconnect.specs.Reaching.{improves, reached_from}
 use Rattle.reconnect.proofs.Reaching.{not_taken, extends, mark_there, same_improved, left_alone, on_rock, no_better, reached_better, pushed}
 use Rattle.reconnect.proofs.state.Search.reach.Goals as goal

@@ -1,4 +1,4 @@
-use Rattle.std.proofs.Common.{◌≡◌, ℕ, suc, ◌+◌, ◌<◌, ◌≤◌, true, List, length, Some, None, sym, refl, ap, ◌∙◌, subst, add-one, arith}
+use Rattle.std.proofs.Common.{◌≡◌, ℕ, suc, ◌+◌, ◌<◌, ◌≤◌, true, List, length, Some, None, sym, ap, ◌∙◌, subst, add-one, arith}
 use mathlib.Core.Path.{subst₃}
 use Rattle.model.specs.Ground.{Ground}
 use Rattle.model.specs.Lattice.{Guide}

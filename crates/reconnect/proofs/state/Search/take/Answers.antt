@@ -1,4 +1,4 @@
-use Rattle.std.proofs.Common.{◌≡◌, ℕ, List, sym, refl, ap, ◌∙◌, subst, subst₂}
+use Rattle.std.proofs.Common.{ℕ, List, sym, refl, ap, ◌∙◌, subst, subst₂}
 use Rattle.model.specs.Plain.{World}
 use Rattle.model.specs.Worlds.{over}
 use Rattle.model.proofs.Search.Steps.{closed, took}

@@ -1,14 +1,13 @@
-use Rattle.std.proofs.Common.{◌≡◌, ℕ, ◌<◌, true, ◌⊎◌, List, Some, None, Option, sym, refl, ap, ◌∙◌, subst, subst₂, inl, inr, ⊎_elim}
-use Rattle.model.specs.Plain.{World, State, is_taken, next, walk_on}
+use Rattle.std.proofs.Common.{◌≡◌, List, Some, None, sym, refl, ap, ◌∙◌, subst, ⊎_elim}
+use Rattle.model.specs.Plain.{World, is_taken, walk_on}
 use Rattle.model.specs.Worlds.{over}
-use Rattle.model.proofs.Search.Steps.{painting, joined, stopped, walked}
+use Rattle.model.proofs.Search.Steps.{painting, stopped, walked}
 use Rattle.board.specs.declared.square.Square.{Square}
-use Rattle.board.specs.Board.{changed, with_paint, pointer_at, paint_at}
+use Rattle.board.specs.Board.{changed, with_paint, pointer_at}
 use Rattle.reconnect.specs.declared.state.Course.TheVariants as course
 use Rattle.reconnect.specs.declared.state.Search.{Search}
 use Rattle.reconnect.specs.declared.state.Walk.TheVariants as walk
-use Rattle.reconnect.specs.Frontier.{Numbered, Frontier}
-use Rattle.reconnect.specs.Reaching.{with_entries}
+use Rattle.reconnect.specs.Frontier.{Numbered}
 use Rattle.reconnect.specs.Represents.{Memory, Represents}
 use Rattle.reconnect.specs.Spreading.{Spreads}
 use Rattle.reconnect.specs.Steps.{ComesTo}
