@@ -21,25 +21,25 @@ pub trait Carrier {
 
     ghost floor: { Self → Self.Floor };
 
-    ghost ground: { Self → Ground };
+    ghost terrain: { Self → Ground };
 
     fn lattice(&self) -> Self::Floor
         ensures { result ≡ floor self.now };
 
     fn cell(&self) -> u32
-        ensures { result ≡ (ground self.now).at };
+        ensures { result ≡ (terrain self.now).at };
 
     fn feel(&self) -> u8
-        ensures { result ≡ feels (Self.Floor.Lattice.grid (floor self.now)) (ground self.now) };
+        ensures { result ≡ feels (Self.Floor.Lattice.grid (floor self.now)) (terrain self.now) };
 
     fn step(&mut self, direction: u8) -> bool
-        ensures answers { result ≡ can_step (Self.Floor.Lattice.grid (floor self.old)) (ground self.old) direction }
-        ensures moves { ground self.new ≡ lands (Self.Floor.Lattice.grid (floor self.old)) (ground self.old) direction }
+        ensures answers { result ≡ can_step (Self.Floor.Lattice.grid (floor self.old)) (terrain self.old) direction }
+        ensures moves { terrain self.new ≡ lands (Self.Floor.Lattice.grid (floor self.old)) (terrain self.old) direction }
         ensures unmoved { result ≡ false → self.new ≡ self.old }
         ensures stays { floor self.new ≡ floor self.old };
 
     // Rock is a set of cells of the floor.
-    ghost cells: { (c : Self) (a : ℕ) → (ground c).rock a ≡ true → a < (Self.Floor.Lattice.grid (floor c)).size };
+    ghost cells: { (c : Self) (a : ℕ) → (terrain c).rock a ≡ true → a < (Self.Floor.Lattice.grid (floor c)).size };
 
-    ghost stands: { (c : Self) → ((ground c).at < (Self.Floor.Lattice.grid (floor c)).size) × ((ground c).rock (ground c).at ≡ false) };
+    ghost stands: { (c : Self) → ((terrain c).at < (Self.Floor.Lattice.grid (floor c)).size) × ((terrain c).rock (terrain c).at ≡ false) };
 }

@@ -118,7 +118,7 @@ impl<L: Lattice + Copy> Carrier for Pillars<L> {
 
     ghost floor = { λ c. c.floor };
 
-    ghost ground = { λ c. record { rock = pillar_rock c.rocks.size c.rocks.width c.rocks.pillars.items; at = c.at } };
+    ghost terrain = { λ c. record { rock = pillar_rock c.rocks.size c.rocks.width c.rocks.pillars.items; at = c.at } };
 
     ghost cells = { λ c a e. omega (arith, rock_within c.rocks.size c.rocks.width c.rocks.pillars.items a e, c.sized) };
 

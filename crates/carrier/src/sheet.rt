@@ -119,7 +119,7 @@ impl<L: Lattice + Copy> Carrier for Sheet<L> {
 
     ghost floor = { λ c. c.floor };
 
-    ghost ground = { λ c. record { rock = sheet_rock c.rocks.bytes.items; at = c.at } };
+    ghost terrain = { λ c. record { rock = sheet_rock c.rocks.bytes.items; at = c.at } };
 
     ghost cells = { λ c a e. omega (arith, rock_within c.rocks.bytes.items a e, c.long, c.rocks.bytes.ok.0) };
 

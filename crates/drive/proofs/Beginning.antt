@@ -44,7 +44,7 @@ module _ (w : World) (fit : Fit w) {G M : Type 0} (value : M → w.scale.Value) 
       same_record : {x y : Square M} → Some x ≡ Some y → x ≡ y
       same_record {x} {y} p = cc
 
-  pub begun_owns : Own w value kept (record { drive = d; board = board; queue = queue; ground = record { rock = w.rock; at = w.start } }) (fresh w) 0
+  pub begun_owns : Own w value kept (record { drive = d; board = board; queue = queue; terrain = record { rock = w.rock; at = w.start } }) (fresh w) 0
   unfolding fresh
   begun_owns = record {
     fit = fit;

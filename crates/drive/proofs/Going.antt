@@ -54,15 +54,15 @@ module _ (w : World) {G M : Type 0} (value : M → w.scale.Value) (kept : M → 
     then = step_onto w s onward to
 
     -- the step succeeds
-    pub can : can_step w.lattice m.ground onward ≡ true
+    pub can : can_step w.lattice m.terrain onward ≡ true
     can =
-        ap (λ r. possible w.lattice r m.ground.at onward) own.rock
+        ap (λ r. possible w.lattice r m.terrain.at onward) own.rock
         ∙ ap (λ a. possible w.lattice w.rock a onward) own.at
         ∙ may w.lattice w.rock here onward to (sound.ready ready).1 (sound.ready ready).2
 
-    lands_at : (lands w.lattice m.ground onward).at ≡ to
+    lands_at : (lands w.lattice m.terrain onward).at ≡ to
     lands_at =
-        ap (λ t. cond t (cell_at (w.lattice.beside m.ground.at onward) m.ground.at) m.ground.at) can
+        ap (λ t. cond t (cell_at (w.lattice.beside m.terrain.at onward) m.terrain.at) m.terrain.at) can
         ∙ ap (λ a. cell_at (w.lattice.beside a onward) a) own.at
         ∙ ap (λ o. cell_at o here) (sound.ready ready).1
 
@@ -88,18 +88,18 @@ module _ (w : World) {G M : Type 0} (value : M → w.scale.Value) (kept : M → 
     reached : Reached w then (calls_after go (moved to) n)
     reached = let R : State w × Answer → Type 0 = λ r. Reached w r.0 (calls_after go r.1 n) in subst R go_call (reachable_call w s n own.reached go)
 
-    module _ (direction cell : ℕ) (ground : Ground) (along : direction ≡ pointer_at m.board d.cell) (landed : ground ≡ lands w.lattice m.ground direction) (onto : cell ≡ ground.at) where
+    module _ (direction cell : ℕ) (terrain : Ground) (along : direction ≡ pointer_at m.board d.cell) (landed : terrain ≡ lands w.lattice m.terrain direction) (onto : cell ≡ terrain.at) where
       abbrev d' : Drive G
       d' = moved_to d cell (w.lattice.cost direction) w.guide.goal
 
       abbrev left : DriveMemory G M
-      left = record { drive = d'; board = m.board; queue = m.queue; ground = ground }
+      left = record { drive = d'; board = m.board; queue = m.queue; terrain = terrain }
 
       as_pointed : direction ≡ onward
       as_pointed = along ∙ points
 
-      lands_there : ground ≡ lands w.lattice m.ground onward
-      lands_there = landed ∙ ap (lands w.lattice m.ground) as_pointed
+      lands_there : terrain ≡ lands w.lattice m.terrain onward
+      lands_there = landed ∙ ap (lands w.lattice m.terrain) as_pointed
 
       on_cell : cell ≡ to
       on_cell = onto ∙ ap (λ g. g.at) lands_there ∙ lands_at
@@ -130,41 +130,41 @@ module _ (w : World) {G M : Type 0} (value : M → w.scale.Value) (kept : M → 
           (ap moved on_cell ∙ sym (ap (λ r. r.1) go_call), subst Owns (sym go_call) owned)
 
 -- the call of a go, as its contract has it
-module _ (l : Lattice) (aim : Guide) (scale : Scale) {G M : Type 0} (value : M → scale.Value) (kept : M → ℕ → Type 0) (d : Drive G) (board : List (Square M)) (queue : List (Entry M)) (ground : Ground) where
+module _ (l : Lattice) (aim : Guide) (scale : Scale) {G M : Type 0} (value : M → scale.Value) (kept : M → ℕ → Type 0) (d : Drive G) (board : List (Square M)) (queue : List (Entry M)) (terrain : Ground) where
   abbrev before : DriveMemory G M
-  before = record { drive = d; board = board; queue = queue; ground = ground }
+  before = record { drive = d; board = board; queue = queue; terrain = terrain }
 
   abbrev checks : Option Refusal
-  checks = call_refusal d Go (record { records = length board; entries = None; at = Some ground.at }) l.size
+  checks = call_refusal d Go (record { records = length board; entries = None; at = Some terrain.at }) l.size
 
   by_phase : (start : Ground) (s : State (over l start aim scale)) (n : ℕ) → Own (over l start aim scale) value kept before s n → checks ≡ phase_refusal s.phase Go
   by_phase start s n own =
       let w = over l start aim scale in
-      own_refusal w value kept before s n own Go (record { records = length board; entries = None; at = Some ground.at })
+      own_refusal w value kept before s n own Go (record { records = length board; entries = None; at = Some terrain.at })
       own.records refl (own_cell w value kept before s n own)
 
   pub go_refused : (e : Refusal) → checks ≡ Some e → Agrees l aim scale value kept go (refused (refusal_number e)) before before
   go_refused e due start s n own = refuses (over l start aim scale) value kept before s n own Go e (sym (by_phase start s n own) ∙ due)
 
   -- a step that the carrier refuses is not along an own drive's pointer
-  pub go_unmoved : (floor : Lattice) (r : Answer) (after : DriveMemory G M) → l ≡ floor → checks ≡ None → can_step floor ground (pointer_at board d.cell) ≡ false → Agrees l aim scale value kept go r before after
+  pub go_unmoved : (floor : Lattice) (r : Answer) (after : DriveMemory G M) → l ≡ floor → checks ≡ None → can_step floor terrain (pointer_at board d.cell) ≡ false → Agrees l aim scale value kept go r before after
   go_unmoved floor r after same ok stays start s n own =
       let w = over l start aim scale in
       let ready = go_phase s.phase (sym (by_phase start s n own) ∙ ok) in
-      let on : can_step floor ground (pointer_at board d.cell) ≡ true =
-      ap (λ k. can_step k ground (pointer_at board d.cell)) (sym same) ∙ ap (can_step l ground) (points w value kept before s n own) ∙ can w value kept before s n own ready in
+      let on : can_step floor terrain (pointer_at board d.cell) ≡ true =
+      ap (λ k. can_step k terrain (pointer_at board d.cell)) (sym same) ∙ ap (can_step l terrain) (points w value kept before s n own) ∙ can w value kept before s n own ready in
       absurd (both_ways _ stays on)
 
   pub go_accepted : (floor : Lattice) (direction cell cost : ℕ) (after : Ground) (d' : Drive G) →
-      l ≡ floor → checks ≡ None → direction ≡ pointer_at board d.cell → after ≡ lands floor ground direction → cell ≡ after.at →
+      l ≡ floor → checks ≡ None → direction ≡ pointer_at board d.cell → after ≡ lands floor terrain direction → cell ≡ after.at →
       cost ≡ l.cost direction → d' ≡ moved_to d cell cost aim.goal →
-      Agrees l aim scale value kept go (moved cell) before (record { drive = d'; board = board; queue = queue; ground = after })
+      Agrees l aim scale value kept go (moved cell) before (record { drive = d'; board = board; queue = queue; terrain = after })
   go_accepted floor direction cell cost after d' same ok along landed onto priced left start s n own =
       let w = over l start aim scale in
       let ready = go_phase s.phase (sym (by_phase start s n own) ∙ ok) in
       let After : Drive G → Type 0 = λ z.
       (moved cell ≡ (call w s go).1)
-      × Own w value kept (record { drive = z; board = board; queue = queue; ground = after }) (call w s go).0 (calls_after go (call w s go).1 n) in
+      × Own w value kept (record { drive = z; board = board; queue = queue; terrain = after }) (call w s go).0 (calls_after go (call w s go).1 n) in
       subst After (sym (left ∙ ap (λ c. moved_to d cell c aim.goal) priced)) (
-      go_agrees w value kept before s n own ready direction cell after along (landed ∙ ap (λ k. lands k ground direction) (sym same)) onto
+      go_agrees w value kept before s n own ready direction cell after along (landed ∙ ap (λ k. lands k terrain direction) (sym same)) onto
       )

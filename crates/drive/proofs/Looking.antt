@@ -209,7 +209,7 @@ module _ (w : World) {G M : Type 0} (value : M → w.scale.Value) (kept : M → 
 
     -- the memory after the look
     abbrev left : DriveMemory G M
-    left = record { drive = d'; board = board' ++ rest; queue = queue'; ground = m.ground }
+    left = record { drive = d'; board = board' ++ rest; queue = queue'; terrain = m.terrain }
 
     reached : Reached w then (calls_after look told n)
     reached = let R : State w × Answer → Type 0 = λ r. Reached w r.0 (calls_after look r.1 n) in subst R (look_call w s unseen) (reachable_call w s n own.reached look)
@@ -241,30 +241,30 @@ module _ (w : World) {G M : Type 0} (value : M → w.scale.Value) (kept : M → 
         (answers ∙ sym (ap (λ r. r.1) same), subst Owns (sym same) (owned (after (eqb (left_pointer w s) 0) refl)))
 
 -- the call of a look, as its contract has it
-module _ (l : Lattice) (aim : Guide) (scale : Scale) {G M : Type 0} (value : M → scale.Value) (kept : M → ℕ → Type 0) (d : Drive G) (board : List (Square M)) (queue : List (Entry M)) (ground : Ground) where
+module _ (l : Lattice) (aim : Guide) (scale : Scale) {G M : Type 0} (value : M → scale.Value) (kept : M → ℕ → Type 0) (d : Drive G) (board : List (Square M)) (queue : List (Entry M)) (terrain : Ground) where
   abbrev before : DriveMemory G M
-  before = record { drive = d; board = board; queue = queue; ground = ground }
+  before = record { drive = d; board = board; queue = queue; terrain = terrain }
 
-  by_phase : (start : Ground) (s : State (over l start aim scale)) (n : ℕ) → Own (over l start aim scale) value kept before s n → look_refusal d board queue l ground ≡ phase_refusal s.phase Look
+  by_phase : (start : Ground) (s : State (over l start aim scale)) (n : ℕ) → Own (over l start aim scale) value kept before s n → look_refusal d board queue l terrain ≡ phase_refusal s.phase Look
   by_phase start s n own =
       let w = over l start aim scale in
-      own_refusal w value kept before s n own Look (record { records = length board; entries = Some (length queue); at = Some ground.at })
+      own_refusal w value kept before s n own Look (record { records = length board; entries = Some (length queue); at = Some terrain.at })
       own.records (own_queue w value kept before s n own) (own_cell w value kept before s n own)
 
-  pub look_refused : (e : Refusal) → look_refusal d board queue l ground ≡ Some e → Agrees l aim scale value kept look (refused (refusal_number e)) before before
+  pub look_refused : (e : Refusal) → look_refusal d board queue l terrain ≡ Some e → Agrees l aim scale value kept look (refused (refusal_number e)) before before
   look_refused e due start s n own = refuses (over l start aim scale) value kept before s n own Look e (sym (by_phase start s n own) ∙ due)
 
   pub look_accepted : (floor : Lattice) (byte count : ℕ) (d' : Drive G) (board' : List (Square M)) (queue' : List (Entry M)) →
-      l ≡ floor → byte ≡ feels floor ground → look_refusal d board queue l ground ≡ None →
+      l ≡ floor → byte ≡ feels floor terrain → look_refusal d board queue l terrain ≡ None →
       Looked scale value kept l byte d d' board board' queue queue' count → length board' ≡ length board → length queue' ≡ length queue →
-      Agrees l aim scale value kept look (felt byte count) before (record { drive = d'; board = board'; queue = queue'; ground = ground })
+      Agrees l aim scale value kept look (felt byte count) before (record { drive = d'; board = board'; queue = queue'; terrain = terrain })
   look_accepted floor byte count d' board' queue' same feels ok done records entries start s n own =
       let w = over l start aim scale in
       let After : List (Square M) → Type 0 = λ xs.
       (felt byte count ≡ (call w s look).1)
-      × Own w value kept (record { drive = d'; board = xs; queue = queue'; ground = ground }) (call w s look).0 (calls_after look (call w s look).1 n) in
+      × Own w value kept (record { drive = d'; board = xs; queue = queue'; terrain = terrain }) (call w s look).0 (calls_after look (call w s look).1 n) in
       let felt-here : byte ≡ rock_bits l start.rock s.cell =
-      feels ∙ ap (λ g. rock_bits g ground.rock ground.at) (sym same) ∙ ap (λ r. rock_bits l r ground.at) own.rock ∙ ap (rock_bits l start.rock) own.at in
+      feels ∙ ap (λ g. rock_bits g terrain.rock terrain.at) (sym same) ∙ ap (λ r. rock_bits l r terrain.at) own.rock ∙ ap (rock_bits l start.rock) own.at in
       let inside : d.cell < l.size = omega (arith, own.cell, (own_sound w value kept before s n own).inside) in
       let long : length (take l.size board') ≡ l.size = first_length board' l.size (omega (arith, own.records, records)) in
       subst After (take-append-drop l.size board') (

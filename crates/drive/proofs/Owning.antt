@@ -45,8 +45,8 @@ module _ (w : World) {G M : Type 0} (value : M → w.scale.Value) (kept : M → 
   pub own_queue : queue_is_short (Some (length m.queue)) w.lattice.size ≡ false
   own_queue = le-ltb (length m.queue) (8 * w.lattice.size + 1) own.memory.room
 
-  pub own_cell : elsewhere (Some m.ground.at) m.drive.cell ≡ false
-  own_cell = ap not (eq-eqb m.ground.at m.drive.cell (own.at ∙ sym own.cell))
+  pub own_cell : elsewhere (Some m.terrain.at) m.drive.cell ≡ false
+  own_cell = ap not (eq-eqb m.terrain.at m.drive.cell (own.at ∙ sym own.cell))
 
   -- then the plain drive refuses it too, and all stays as it is
   pub refuses : (k : Call) (e : Refusal) → phase_refusal s.phase k ≡ Some e →

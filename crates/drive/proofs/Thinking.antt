@@ -129,31 +129,31 @@ module _ (l : Lattice) (aim : Guide) (scale : Scale) {M : Type 0} (value : M →
   -- some steps are done, and the search goes on
   abbrev pub Underway : ℕ → Memory M → Memory M → Type 0
   Underway done before now =
-      (ground : Ground) (s : State (over l ground aim scale)) (n : ℕ) →
-      Fit (over l ground aim scale) → Reached (over l ground aim scale) s n → s.phase ≡ phase.Searching → s.cell ≡ home →
-      Represents (over l ground aim scale) value kept before s →
-      (t : State (over l ground aim scale)) × (thought (over l ground aim scale) done 0 s ≡ (t, spent done)) × Represents (over l ground aim scale) value kept now t
+      (terrain : Ground) (s : State (over l terrain aim scale)) (n : ℕ) →
+      Fit (over l terrain aim scale) → Reached (over l terrain aim scale) s n → s.phase ≡ phase.Searching → s.cell ≡ home →
+      Represents (over l terrain aim scale) value kept before s →
+      (t : State (over l terrain aim scale)) × (thought (over l terrain aim scale) done 0 s ≡ (t, spent done)) × Represents (over l terrain aim scale) value kept now t
 
   pub underway_none : (before : Memory M) → Underway 0 before before
   unfolding thought
-  underway_none before ground s n fit h p c r = (s, refl, r)
+  underway_none before terrain s n fit h p c r = (s, refl, r)
 
   pub underway_spent : (budget : ℕ) (before now : Memory M) → Underway budget before now → ThinksAs l aim scale value kept home budget budget came.Spent before now
-  underway_spent budget before now u ground s n fit h p c r =
-      let t = u ground s n fit h p c r in
-      let w = over l ground aim scale in
+  underway_spent budget before now u terrain s n fit h p c r =
+      let t = u terrain s n fit h p c r in
+      let w = over l terrain aim scale in
       (sym (ap (λ z. z.1) t.1), subst (λ z. Represents w value kept now z.0) (sym t.1) t.2)
 
-  module _ (done : ℕ) (before now next : Memory M) (u : Underway done before now) (ground : Ground) (s : State (over l ground aim scale)) (n : ℕ)
-      (fit : Fit (over l ground aim scale)) (h : Reached (over l ground aim scale) s n) (p : s.phase ≡ phase.Searching) (c : s.cell ≡ home) (r : Represents (over l ground aim scale) value kept before s) where
+  module _ (done : ℕ) (before now next : Memory M) (u : Underway done before now) (terrain : Ground) (s : State (over l terrain aim scale)) (n : ℕ)
+      (fit : Fit (over l terrain aim scale)) (h : Reached (over l terrain aim scale) s n) (p : s.phase ≡ phase.Searching) (c : s.cell ≡ home) (r : Represents (over l terrain aim scale) value kept before s) where
     abbrev w : World
-    w = over l ground aim scale
+    w = over l terrain aim scale
 
     abbrev t : State w
-    t = (u ground s n fit h p c r).0
+    t = (u terrain s n fit h p c r).0
 
     so_far : thought w done 0 s ≡ (t, spent done)
-    so_far = (u ground s n fit h p c r).1
+    so_far = (u terrain s n fit h p c r).1
 
     left : Left w s (t, spent done)
     left = subst (Left w s) so_far (thought_left w done 0 s p)
@@ -162,7 +162,7 @@ module _ (l : Lattice) (aim : Guide) (scale : Scale) {M : Type 0} (value : M →
     stepped : (x : Course') → StepsAs scale value kept x now next l home aim → (course_shown x ≡ (think_step w t).1) × Represents w value kept next (think_step w t).0
     stepped x steps =
         let reached = spent_reached w s n h p done t so_far in
-        steps ground t reached.0 fit reached.1 left.phase (left.same.cell ∙ c) (u ground s n fit h p c r).2
+        steps terrain t reached.0 fit reached.1 left.phase (left.same.cell ∙ c) (u terrain s n fit h p c r).2
 
     -- the rest of a budget
     rest : (m b : ℕ) → done + suc m ≡ b → thought w b 0 s ≡ thought w (suc m) done t
@@ -170,35 +170,35 @@ module _ (l : Lattice) (aim : Guide) (scale : Scale) {M : Type 0} (value : M →
 
   pub underway_more : (done : ℕ) (before now next : Memory M) → Underway done before now → StepsAs scale value kept course.Going now next l home aim → Underway (done + 1) before next
   unfolding thought
-  underway_more done before now next u steps ground s n fit h p c r =
-      let w = over l ground aim scale in
-      let t = (u ground s n fit h p c r).0 in
-      let one = stepped done before now next u ground s n fit h p c r course.Going steps in (
+  underway_more done before now next u steps terrain s n fit h p c r =
+      let w = over l terrain aim scale in
+      let t = (u terrain s n fit h p c r).0 in
+      let one = stepped done before now next u terrain s n fit h p c r course.Going steps in (
         (think_step w t).0,
-        rest done before now next u ground s n fit h p c r 0 (done + 1) refl ∙ thought_on w 0 done t (sym one.0) ∙ ap (λ k. ((think_step w t).0, spent k)) (sym (add-one done)),
+        rest done before now next u terrain s n fit h p c r 0 (done + 1) refl ∙ thought_on w 0 done t (sym one.0) ∙ ap (λ k. ((think_step w t).0, spent k)) (sym (add-one done)),
         one.1,
       )
 
   pub underway_joins : (done budget x y : ℕ) (before now next : Memory M) → done < budget → Underway done before now → StepsAs scale value kept (course.Joined x y) now next l home aim →
       ThinksAs l aim scale value kept home budget (done + 1) (came.Joined x y) before next
-  underway_joins done budget x y before now next below u steps ground s n fit h p c r =
-      let w = over l ground aim scale in
-      let t = (u ground s n fit h p c r).0 in
+  underway_joins done budget x y before now next below u steps terrain s n fit h p c r =
+      let w = over l terrain aim scale in
+      let t = (u terrain s n fit h p c r).0 in
       let m : ℕ = budget - (done + 1) in
-      let one = stepped done before now next u ground s n fit h p c r (course.Joined x y) steps in
+      let one = stepped done before now next u terrain s n fit h p c r (course.Joined x y) steps in
       let all : thought w budget 0 s ≡ ((think_step w t).0, joined (done + 1) x y) =
-      rest done before now next u ground s n fit h p c r m budget (omega arith) ∙ thought_joins w m done t x y (sym one.0) ∙ ap (λ k. ((think_step w t).0, joined k x y)) (sym (add-one done)) in
+      rest done before now next u terrain s n fit h p c r m budget (omega arith) ∙ thought_joins w m done t x y (sym one.0) ∙ ap (λ k. ((think_step w t).0, joined k x y)) (sym (add-one done)) in
       (sym (ap (λ z. z.1) all), subst (λ z. Represents w value kept next z.0) (sym all) one.1)
 
   pub underway_closes : (done budget : ℕ) (before now next : Memory M) → done < budget → Underway done before now → StepsAs scale value kept course.Shut now next l home aim →
       ThinksAs l aim scale value kept home budget (done + 1) came.Shut before next
-  underway_closes done budget before now next below u steps ground s n fit h p c r =
-      let w = over l ground aim scale in
-      let t = (u ground s n fit h p c r).0 in
+  underway_closes done budget before now next below u steps terrain s n fit h p c r =
+      let w = over l terrain aim scale in
+      let t = (u terrain s n fit h p c r).0 in
       let m : ℕ = budget - (done + 1) in
-      let one = stepped done before now next u ground s n fit h p c r course.Shut steps in
+      let one = stepped done before now next u terrain s n fit h p c r course.Shut steps in
       let all : thought w budget 0 s ≡ ((think_step w t).0, shut (done + 1)) =
-      rest done before now next u ground s n fit h p c r m budget (omega arith) ∙ thought_closes w m done t (sym one.0) ∙ ap (λ k. ((think_step w t).0, shut k)) (sym (add-one done)) in
+      rest done before now next u terrain s n fit h p c r m budget (omega arith) ∙ thought_closes w m done t (sym one.0) ∙ ap (λ k. ((think_step w t).0, shut k)) (sym (add-one done)) in
       (sym (ap (λ z. z.1) all), subst (λ z. Represents w value kept next z.0) (sym all) one.1)
 
 -- the phase by the answer, and by what the steps came to
@@ -208,9 +208,9 @@ phase_same w done (came.Joined x y) = refl
 phase_same w done came.Shut = refl
 
 -- the call of a think, as its contract has it
-module _ (l : Lattice) (aim : Guide) (scale : Scale) {G M : Type 0} (value : M → scale.Value) (kept : M → ℕ → Type 0) (d : Drive G) (board : List (Square M)) (queue : List (Entry M)) (budget : ℕ) (ground : Ground) where
+module _ (l : Lattice) (aim : Guide) (scale : Scale) {G M : Type 0} (value : M → scale.Value) (kept : M → ℕ → Type 0) (d : Drive G) (board : List (Square M)) (queue : List (Entry M)) (budget : ℕ) (terrain : Ground) where
   abbrev before : DriveMemory G M
-  before = record { drive = d; board = board; queue = queue; ground = ground }
+  before = record { drive = d; board = board; queue = queue; terrain = terrain }
 
   by_phase : (start : Ground) (s : State (over l start aim scale)) (n : ℕ) → Own (over l start aim scale) value kept before s n → think_refusal d board queue budget l ≡ phase_refusal s.phase (Think budget)
   by_phase start s n own =
@@ -225,7 +225,7 @@ module _ (l : Lattice) (aim : Guide) (scale : Scale) {G M : Type 0} (value : M �
       (thinks : ThinksAs l aim scale value kept d.cell budget done t (record { search = d.search; board = take k board; queue = queue }) (record { search = d'.search; board = board'; queue = queue' }))
       (records : length board' ≡ k) where
     abbrev after : DriveMemory G M
-    after = record { drive = d'; board = board' ++ drop k board; queue = queue'; ground = ground }
+    after = record { drive = d'; board = board' ++ drop k board; queue = queue'; terrain = terrain }
 
     module _ (start : Ground) (s : State (over l start aim scale)) (n : ℕ) (own : Own (over l start aim scale) value kept before s n) where
       abbrev world : World

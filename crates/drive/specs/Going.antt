@@ -22,9 +22,9 @@ module _ {G M : Type 0} (d : Drive G) (board : List (Square M)) where
 
   -- the first refusal of go, by the guide's lattice, and the carrier's lattice and ground
   abbrev pub go_refusal : Lattice → Lattice → Ground → Option Refusal
-  go_refusal guide floor ground =
-      or_else (call_refusal d Go (record { records = length board; entries = None; at = Some ground.at }) guide.size)
-      (refuse_if (not (can_step floor ground onward)) StepRefused)
+  go_refusal guide floor terrain =
+      or_else (call_refusal d Go (record { records = length board; entries = None; at = Some terrain.at }) guide.size)
+      (refuse_if (not (can_step floor terrain onward)) StepRefused)
 
   -- the carrier made that step, onto the cell
   pub record Stepped (floor : Lattice) (before after : Ground) (cell : ℕ) : Type 0 where

@@ -21,7 +21,7 @@ use Rattle.drive.specs.Going.{counted}
 
 -- the first refusal of a look, by the board, the queue, the guide's lattice and the carrier's ground
 abbrev pub look_refusal : {G M : Type 0} → Drive G → List (Square M) → List (Entry M) → Lattice → Ground → Option Refusal
-look_refusal d board queue l ground = call_refusal d Look (record { records = length board; entries = Some (length queue); at = Some ground.at }) l.size
+look_refusal d board queue l terrain = call_refusal d Look (record { records = length board; entries = Some (length queue); at = Some terrain.at }) l.size
 
 -- the number of the next search, which stays where it would pass 16 bits
 abbrev pub next_search : ℕ → ℕ

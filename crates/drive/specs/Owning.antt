@@ -16,15 +16,15 @@ pub record DriveMemory (G M : Type 0) : Type 0 where
   pub drive : Drive G
   pub board : List (Square M)
   pub queue : List (Entry M)
-  pub ground : Ground
+  pub terrain : Ground
 
 -- the memory is that of a new drive after some calls, n of them accepted and not tell, which leave the plain drive in a state:
 -- drive and carrier are as the state has them, and board and queue hold its records and its search
 pub record Own (w : World) {G M : Type 0} (value : M → w.scale.Value) (kept : M → ℕ → Type 0) (m : DriveMemory G M) (s : State w) (n : ℕ) : Type 0 where
   pub fit : Fit w
   pub reached : Reached w s n
-  pub rock : m.ground.rock ≡ w.rock
-  pub at : m.ground.at ≡ s.cell
+  pub rock : m.terrain.rock ≡ w.rock
+  pub at : m.terrain.at ≡ s.cell
   pub records : w.lattice.size ≤ length m.board
   pub memory : Represents w value kept (record { search = m.drive.search; board = m.board; queue = m.queue }) s
   pub begun : m.drive.void ≡ None
@@ -41,7 +41,7 @@ calls_after k a n = cond (acts k && accepted a) (suc n) n
 -- for every state whose memory a drive owns before a call: the answer is the plain drive's, and after the call it owns the memory of the plain drive's next state
 abbrev pub Agrees : (l : Lattice) (aim : Guide) (scale : Scale) {G M : Type 0} (value : M → scale.Value) (kept : M → ℕ → Type 0) → Call → Answer → (before after : DriveMemory G M) → Type 0
 Agrees l aim scale value kept k r before after =
-    (ground : Ground) (s : State (over l ground aim scale)) (n : ℕ) →
-    Own (over l ground aim scale) value kept before s n →
-    (r ≡ (call (over l ground aim scale) s k).1)
-    × Own (over l ground aim scale) value kept after (call (over l ground aim scale) s k).0 (calls_after k (call (over l ground aim scale) s k).1 n)
+    (terrain : Ground) (s : State (over l terrain aim scale)) (n : ℕ) →
+    Own (over l terrain aim scale) value kept before s n →
+    (r ≡ (call (over l terrain aim scale) s k).1)
+    × Own (over l terrain aim scale) value kept after (call (over l terrain aim scale) s k).0 (calls_after k (call (over l terrain aim scale) s k).1 n)

@@ -33,8 +33,8 @@ phase_after p Shut = phase.Shut
 -- and the memory stands for the state after them
 abbrev pub ThinksAs : (l : Lattice) (aim : Guide) (scale : Scale) {M : Type 0} (value : M → scale.Value) (kept : M → ℕ → Type 0) → (home budget done : ℕ) → Thought → (before after : Memory M) → Type 0
 ThinksAs l aim scale value kept home budget done t before after =
-    (ground : Ground) (s : State (over l ground aim scale)) (n : ℕ) →
-    Fit (over l ground aim scale) → Reached (over l ground aim scale) s n → s.phase ≡ phase.Searching → s.cell ≡ home →
-    Represents (over l ground aim scale) value kept before s →
-    (thought_answer done t ≡ (thought (over l ground aim scale) budget 0 s).1)
-    × Represents (over l ground aim scale) value kept after (thought (over l ground aim scale) budget 0 s).0
+    (terrain : Ground) (s : State (over l terrain aim scale)) (n : ℕ) →
+    Fit (over l terrain aim scale) → Reached (over l terrain aim scale) s n → s.phase ≡ phase.Searching → s.cell ≡ home →
+    Represents (over l terrain aim scale) value kept before s →
+    (thought_answer done t ≡ (thought (over l terrain aim scale) budget 0 s).1)
+    × Represents (over l terrain aim scale) value kept after (thought (over l terrain aim scale) budget 0 s).0

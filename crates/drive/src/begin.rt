@@ -46,12 +46,12 @@ pub fn begin<C: Carrier, G: Guide, M: Measure>(
     board: &mut [Square<M>],
     queue: &[Entry<M>],
 ) -> Drive<G>
-    ensures made { result ≡ begun guide (vet_refusal (G.Lattice.grid guide).size (G.Guide.aim guide).goal (length board.old) (length queue.now)) (C.Carrier.ground carrier.now).at (G.Guide.aim guide).goal }
-    ensures laid { result.void ≡ None → Laid (G.Lattice.grid guide) (G.Guide.aim guide) (C.Carrier.ground carrier.now).at (G.Lattice.grid guide).size board.old board.new }
+    ensures made { result ≡ begun guide (vet_refusal (G.Lattice.grid guide).size (G.Guide.aim guide).goal (length board.old) (length queue.now)) (C.Carrier.terrain carrier.now).at (G.Guide.aim guide).goal }
+    ensures laid { result.void ≡ None → Laid (G.Lattice.grid guide) (G.Guide.aim guide) (C.Carrier.terrain carrier.now).at (G.Lattice.grid guide).size board.old board.new }
     ensures untouched { (e : Refusal) → result.void ≡ Some e → board.new ≡ board.old }
-    ensures fresh { result.void ≡ None → Stands (over (G.Lattice.grid guide) (C.Carrier.ground carrier.now) (G.Guide.aim guide) M.Measure.scale) M.Measure.value result board.new (fresh (over (G.Lattice.grid guide) (C.Carrier.ground carrier.now) (G.Guide.aim guide) M.Measure.scale)) }
-    ensures own { result.void ≡ None → G.Lattice.grid guide ≡ C.Floor.Lattice.grid (C.Carrier.floor carrier.now) → Own (over (G.Lattice.grid guide) (C.Carrier.ground carrier.now) (G.Guide.aim guide) M.Measure.scale) M.Measure.value M.Measure.kept (record { drive = result; board = board.new; queue = queue.now; ground = C.Carrier.ground carrier.now }) (fresh (over (G.Lattice.grid guide) (C.Carrier.ground carrier.now) (G.Guide.aim guide) M.Measure.scale)) 0 }
-    ensures promise { result.void ≡ None → G.Lattice.grid guide ≡ C.Floor.Lattice.grid (C.Carrier.floor carrier.now) → Keeps (over (G.Lattice.grid guide) (C.Carrier.ground carrier.now) (G.Guide.aim guide) M.Measure.scale) }
+    ensures fresh { result.void ≡ None → Stands (over (G.Lattice.grid guide) (C.Carrier.terrain carrier.now) (G.Guide.aim guide) M.Measure.scale) M.Measure.value result board.new (fresh (over (G.Lattice.grid guide) (C.Carrier.terrain carrier.now) (G.Guide.aim guide) M.Measure.scale)) }
+    ensures own { result.void ≡ None → G.Lattice.grid guide ≡ C.Floor.Lattice.grid (C.Carrier.floor carrier.now) → Own (over (G.Lattice.grid guide) (C.Carrier.terrain carrier.now) (G.Guide.aim guide) M.Measure.scale) M.Measure.value M.Measure.kept (record { drive = result; board = board.new; queue = queue.now; terrain = C.Carrier.terrain carrier.now }) (fresh (over (G.Lattice.grid guide) (C.Carrier.terrain carrier.now) (G.Guide.aim guide) M.Measure.scale)) 0 }
+    ensures promise { result.void ≡ None → G.Lattice.grid guide ≡ C.Floor.Lattice.grid (C.Carrier.floor carrier.now) → Keeps (over (G.Lattice.grid guide) (C.Carrier.terrain carrier.now) (G.Guide.aim guide) M.Measure.scale) }
 {
     if let Err(refusal) = vet(carrier, &guide, board, queue) {
         return Drive::void(guide, refusal);

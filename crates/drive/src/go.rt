@@ -23,11 +23,11 @@ impl<G: Guide> Drive<G> {
         carrier: &mut C,
         board: &[Square<M>],
     ) -> Result<u32, Refusal>
-        ensures refused { IfErr result (λ e. (go_refusal self.old board.now (G.Lattice.grid self.old.guide) (C.Floor.Lattice.grid (C.Carrier.floor carrier.old)) (C.Carrier.ground carrier.old) ≡ Some e) × (self.new ≡ self.old) × (carrier.new ≡ carrier.old)) }
-        ensures accepted { IfOk result (λ cell. (go_refusal self.old board.now (G.Lattice.grid self.old.guide) (C.Floor.Lattice.grid (C.Carrier.floor carrier.old)) (C.Carrier.ground carrier.old) ≡ None) × Stepped self.old board.now (C.Floor.Lattice.grid (C.Carrier.floor carrier.old)) (C.Carrier.ground carrier.old) (C.Carrier.ground carrier.new) cell × (self.new ≡ moved_to self.old cell ((G.Lattice.grid self.old.guide).cost (pointer_at board.now self.old.cell)) (G.Guide.aim self.old.guide).goal)) }
+        ensures refused { IfErr result (λ e. (go_refusal self.old board.now (G.Lattice.grid self.old.guide) (C.Floor.Lattice.grid (C.Carrier.floor carrier.old)) (C.Carrier.terrain carrier.old) ≡ Some e) × (self.new ≡ self.old) × (carrier.new ≡ carrier.old)) }
+        ensures accepted { IfOk result (λ cell. (go_refusal self.old board.now (G.Lattice.grid self.old.guide) (C.Floor.Lattice.grid (C.Carrier.floor carrier.old)) (C.Carrier.terrain carrier.old) ≡ None) × Stepped self.old board.now (C.Floor.Lattice.grid (C.Carrier.floor carrier.old)) (C.Carrier.terrain carrier.old) (C.Carrier.terrain carrier.new) cell × (self.new ≡ moved_to self.old cell ((G.Lattice.grid self.old.guide).cost (pointer_at board.now self.old.cell)) (G.Guide.aim self.old.guide).goal)) }
         ensures guide { self.new.guide ≡ self.old.guide }
         ensures stays { C.Carrier.floor carrier.new ≡ C.Carrier.floor carrier.old }
-        ensures own { G.Lattice.grid self.old.guide ≡ C.Floor.Lattice.grid (C.Carrier.floor carrier.old) → (queue : List (Entry M)) → Agrees (G.Lattice.grid self.old.guide) (G.Guide.aim self.old.guide) M.Measure.scale M.Measure.value M.Measure.kept go (go_answer result) (record { drive = self.old; board = board.now; queue = queue; ground = C.Carrier.ground carrier.old }) (record { drive = self.new; board = board.now; queue = queue; ground = C.Carrier.ground carrier.new }) }
+        ensures own { G.Lattice.grid self.old.guide ≡ C.Floor.Lattice.grid (C.Carrier.floor carrier.old) → (queue : List (Entry M)) → Agrees (G.Lattice.grid self.old.guide) (G.Guide.aim self.old.guide) M.Measure.scale M.Measure.value M.Measure.kept go (go_answer result) (record { drive = self.old; board = board.now; queue = queue; terrain = C.Carrier.terrain carrier.old }) (record { drive = self.new; board = board.now; queue = queue; terrain = C.Carrier.terrain carrier.new }) }
     {
         let lent = Lent {
             records: board.len(),

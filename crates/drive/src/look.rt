@@ -26,10 +26,10 @@ impl<G: Guide> Drive<G> {
         board: &mut [Square<M>],
         queue: &mut [Entry<M>],
     ) -> Result<(u8, u32), Refusal>
-        ensures refused { IfErr result (λ e. (look_refusal self.old board.old queue.old (G.Lattice.grid self.old.guide) (C.Carrier.ground carrier.now) ≡ Some e) × (self.new ≡ self.old) × (board.new ≡ board.old) × (queue.new ≡ queue.old)) }
-        ensures accepted { IfOk result (λ a. (look_refusal self.old board.old queue.old (G.Lattice.grid self.old.guide) (C.Carrier.ground carrier.now) ≡ None) × (a.0 ≡ feels (C.Floor.Lattice.grid (C.Carrier.floor carrier.now)) (C.Carrier.ground carrier.now)) × Looked M.Measure.scale M.Measure.value M.Measure.kept (G.Lattice.grid self.old.guide) a.0 self.old self.new board.old board.new queue.old queue.new a.1) }
+        ensures refused { IfErr result (λ e. (look_refusal self.old board.old queue.old (G.Lattice.grid self.old.guide) (C.Carrier.terrain carrier.now) ≡ Some e) × (self.new ≡ self.old) × (board.new ≡ board.old) × (queue.new ≡ queue.old)) }
+        ensures accepted { IfOk result (λ a. (look_refusal self.old board.old queue.old (G.Lattice.grid self.old.guide) (C.Carrier.terrain carrier.now) ≡ None) × (a.0 ≡ feels (C.Floor.Lattice.grid (C.Carrier.floor carrier.now)) (C.Carrier.terrain carrier.now)) × Looked M.Measure.scale M.Measure.value M.Measure.kept (G.Lattice.grid self.old.guide) a.0 self.old self.new board.old board.new queue.old queue.new a.1) }
         ensures guide { self.new.guide ≡ self.old.guide }
-        ensures own { G.Lattice.grid self.old.guide ≡ C.Floor.Lattice.grid (C.Carrier.floor carrier.now) → Agrees (G.Lattice.grid self.old.guide) (G.Guide.aim self.old.guide) M.Measure.scale M.Measure.value M.Measure.kept look (look_answer result) (record { drive = self.old; board = board.old; queue = queue.old; ground = C.Carrier.ground carrier.now }) (record { drive = self.new; board = board.new; queue = queue.new; ground = C.Carrier.ground carrier.now }) }
+        ensures own { G.Lattice.grid self.old.guide ≡ C.Floor.Lattice.grid (C.Carrier.floor carrier.now) → Agrees (G.Lattice.grid self.old.guide) (G.Guide.aim self.old.guide) M.Measure.scale M.Measure.value M.Measure.kept look (look_answer result) (record { drive = self.old; board = board.old; queue = queue.old; terrain = C.Carrier.terrain carrier.now }) (record { drive = self.new; board = board.new; queue = queue.new; terrain = C.Carrier.terrain carrier.now }) }
     {
         let lent = Lent {
             records: board.len(),

@@ -41,7 +41,7 @@ impl<G: Guide> Drive<G> {
         ensures accepted { OnOk result (think_refusal self.old board.old queue.old budget (G.Lattice.grid self.old.guide) ≡ None) }
         ensures beyond { drop (G.Lattice.grid self.old.guide).size board.new ≡ drop (G.Lattice.grid self.old.guide).size board.old }
         ensures guide { self.new.guide ≡ self.old.guide }
-        ensures own { (ground : Ground) → Agrees (G.Lattice.grid self.old.guide) (G.Guide.aim self.old.guide) M.Measure.scale M.Measure.value M.Measure.kept (think budget) (think_answer result) (record { drive = self.old; board = board.old; queue = queue.old; ground = ground }) (record { drive = self.new; board = board.new; queue = queue.new; ground = ground }) }
+        ensures own { (terrain : Ground) → Agrees (G.Lattice.grid self.old.guide) (G.Guide.aim self.old.guide) M.Measure.scale M.Measure.value M.Measure.kept (think budget) (think_answer result) (record { drive = self.old; board = board.old; queue = queue.old; terrain = terrain }) (record { drive = self.new; board = board.new; queue = queue.new; terrain = terrain }) }
     {
         let lent = Lent {
             records: board.len(),

@@ -1,6 +1,6 @@
 -- The cells of a search as board and queue hold them.
 use Rattle.std.specs.Prelude.{◌≡◌, ℕ, ◌<◌, ◌≤◌, true, List, length, take, Some}
-use Rattle.std.specs.List.{slice_get, ContainsAt as Has, AllByRecursion as All}
+use Rattle.std.specs.List.{slice_get, ContainsAt as Has, AllByRecursion}
 use Rattle.model.specs.Scale.{Scale}
 use Rattle.model.specs.Plain as plain
 use Rattle.model.specs.Promise.{count}
@@ -39,7 +39,7 @@ module _ {M : Type 0} (scale : Scale) (value : M → scale.Value) where
   pub record Queued (size : ℕ) (stages : ℕ → plain.Stage scale.Value) (queue : List (Entry M)) (n : ℕ) : Type 0 where
     pub room : n ≤ length queue
     pub heap : Heap scale value queue n
-    pub due : All (DueAt size stages) (take n queue)
+    pub due : AllByRecursion (DueAt size stages) (take n queue)
     pub waiting :
         (a : ℕ) (v : scale.Value) (b : ℕ) → a < size → stages a ≡ plain.waiting v b →
         (e : Entry M) × Has (take n queue) e × (e.cell ≡ a) × (value e.value ≡ v)

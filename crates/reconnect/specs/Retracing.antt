@@ -16,7 +16,7 @@ pub record Homewards (w : World) (home : ℕ) (q : Squares w) : Type 0 where
 -- the pointers from `home` to a taken cell are set as the plain drive sets them
 abbrev pub Retraces : (l : Lattice) (scale : Scale) {M : Type 0} (value : M → scale.Value) (home taken number : ℕ) (before after : List (Square M)) → Type 0
 Retraces l scale value home a number before after =
-    (ground : Ground) (aim : Guide) (q : Squares (over l ground aim scale)) →
-    Homewards (over l ground aim scale) home q → is_taken (q a).stage ≡ true →
+    (terrain : Ground) (aim : Guide) (q : Squares (over l terrain aim scale)) →
+    Homewards (over l terrain aim scale) home q → is_taken (q a).stage ≡ true →
     Shown value l.size number before q →
-    Shown value l.size number after (retraced (over l ground aim scale) l.size home a q)
+    Shown value l.size number after (retraced (over l terrain aim scale) l.size home a q)

@@ -27,35 +27,35 @@ module _ (scale : Scale) {M : Type 0} (value : M → scale.Value) (kept : M → 
   -- a take, where no walk is under way
   abbrev pub TakesAs : Type 0
   TakesAs =
-      (l : Lattice) (ground : Ground) (aim : Guide) (s : State (over l ground aim scale)) →
-      s.phase ≡ phase.Searching → s.walk ≡ resting → Represents (over l ground aim scale) value kept before s →
-      ComesTo (over l ground aim scale) value kept c after (take (over l ground aim scale) s)
+      (l : Lattice) (terrain : Ground) (aim : Guide) (s : State (over l terrain aim scale)) →
+      s.phase ≡ phase.Searching → s.walk ≡ resting → Represents (over l terrain aim scale) value kept before s →
+      ComesTo (over l terrain aim scale) value kept c after (take (over l terrain aim scale) s)
 
   module _ (l : Lattice) (home : ℕ) where
     -- joining the tree at a taken cell
     abbrev pub JoinsAs : ℕ → Type 0
     JoinsAs a =
-        (ground : Ground) (aim : Guide) (s : State (over l ground aim scale)) →
-        s.phase ≡ phase.Searching → Homewards (over l ground aim scale) home s.squares → is_taken (s.squares a).stage ≡ true →
-        Represents (over l ground aim scale) value kept before s →
-        ComesTo (over l ground aim scale) value kept c after (
-          with_search (over l ground aim scale) s phase.Ready (retraced (over l ground aim scale) l.size home a s.squares) resting,
-          plain.join (scale.shown (worth (over l ground aim scale) (s.squares a).stage)).0 (scale.shown (worth (over l ground aim scale) (s.squares a).stage)).1,
+        (terrain : Ground) (aim : Guide) (s : State (over l terrain aim scale)) →
+        s.phase ≡ phase.Searching → Homewards (over l terrain aim scale) home s.squares → is_taken (s.squares a).stage ≡ true →
+        Represents (over l terrain aim scale) value kept before s →
+        ComesTo (over l terrain aim scale) value kept c after (
+          with_search (over l terrain aim scale) s phase.Ready (retraced (over l terrain aim scale) l.size home a s.squares) resting,
+          plain.join (scale.shown (worth (over l terrain aim scale) (s.squares a).stage)).0 (scale.shown (worth (over l terrain aim scale) (s.squares a).stage)).1,
         )
 
     module _ (aim : Guide) where
       -- a step of the walk from a taken cell at another, in a search of a new drive that began at `home`
       abbrev pub WalksAs : ℕ → ℕ → Type 0
       WalksAs a b =
-          (ground : Ground) (s : State (over l ground aim scale)) (n : ℕ) →
-          Fit (over l ground aim scale) → Reached (over l ground aim scale) s n → s.phase ≡ phase.Searching → s.cell ≡ home →
-          s.walk ≡ walking a b → Represents (over l ground aim scale) value kept before s →
-          ComesTo (over l ground aim scale) value kept c after (walk_on (over l ground aim scale) s a b)
+          (terrain : Ground) (s : State (over l terrain aim scale)) (n : ℕ) →
+          Fit (over l terrain aim scale) → Reached (over l terrain aim scale) s n → s.phase ≡ phase.Searching → s.cell ≡ home →
+          s.walk ≡ walking a b → Represents (over l terrain aim scale) value kept before s →
+          ComesTo (over l terrain aim scale) value kept c after (walk_on (over l terrain aim scale) s a b)
 
       -- a step in a search of a new drive that began at `home`
       abbrev pub StepsAs : Type 0
       StepsAs =
-          (ground : Ground) (s : State (over l ground aim scale)) (n : ℕ) →
-          Fit (over l ground aim scale) → Reached (over l ground aim scale) s n → s.phase ≡ phase.Searching → s.cell ≡ home →
-          Represents (over l ground aim scale) value kept before s →
-          ComesTo (over l ground aim scale) value kept c after (think_step (over l ground aim scale) s)
+          (terrain : Ground) (s : State (over l terrain aim scale)) (n : ℕ) →
+          Fit (over l terrain aim scale) → Reached (over l terrain aim scale) s n → s.phase ≡ phase.Searching → s.cell ≡ home →
+          Represents (over l terrain aim scale) value kept before s →
+          ComesTo (over l terrain aim scale) value kept c after (think_step (over l terrain aim scale) s)

@@ -65,7 +65,7 @@ impl Search {
     )
         ensures rest { self.new ≡ with_entries self.old self.new.waiting }
         ensures numbered { (size : ℕ) → Numbered size self.old.number board.old → Numbered size self.old.number board.new }
-        ensures reaches { (l : Grid) (ground : Ground) (aim : Aim) → Reaches (over l ground aim M.Measure.scale) M.Measure.value M.Measure.kept from cost cell self.old.number board.old board.new queue.old queue.new self.old.waiting self.new.waiting }
+        ensures reaches { (l : Grid) (terrain : Ground) (aim : Aim) → Reaches (over l terrain aim M.Measure.scale) M.Measure.value M.Measure.kept from cost cell self.old.number board.old board.new queue.old queue.new self.old.waiting self.new.waiting }
     {
         let mark = mark(board, cell);
         let reached = from.measure.extend(cost, is_unseen(mark));

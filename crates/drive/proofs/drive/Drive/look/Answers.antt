@@ -19,7 +19,7 @@ returns-in_err-check g c =
       refused = (due, refl, refl, refl);
       accepted = tt;
       guide = refl;
-      own = λ _. look_refused l (g.G.Guide.aim d.guide) g.M.Measure.scale g.M.Measure.value g.M.Measure.kept d c.args.board.now c.args.queue.now (g.C.Carrier.ground c.args.carrier.now) c.in_err-check.field-0.0 due;
+      own = λ _. look_refused l (g.G.Guide.aim d.guide) g.M.Measure.scale g.M.Measure.value g.M.Measure.kept d c.args.board.now c.args.queue.now (g.C.Carrier.terrain c.args.carrier.now) c.in_err-check.field-0.0 due;
     })
 
 pub see-new-requires : goal.see-new-requires
@@ -37,7 +37,7 @@ returns g c =
       refused = tt;
       accepted = (accepts, c.feel-felt.ensures, c.see-new.ensures);
       guide = same_guide g.M.Measure.scale g.M.Measure.value g.M.Measure.kept (found_more d c.see-new.result) c.see-new.new.self c.see-new.ensures.seen c.see-new.new.board c.args.queue.now c.see-new.new.queue c.see-new.ensures.goes_on;
-      own = λ same. look_accepted l (g.G.Guide.aim d.guide) g.M.Measure.scale g.M.Measure.value g.M.Measure.kept d c.args.board.now c.args.queue.now (g.C.Carrier.ground c.args.carrier.now)
+      own = λ same. look_accepted l (g.G.Guide.aim d.guide) g.M.Measure.scale g.M.Measure.value g.M.Measure.kept d c.args.board.now c.args.queue.now (g.C.Carrier.terrain c.args.carrier.now)
           (g.C.Floor.Lattice.grid (g.C.Carrier.floor c.args.carrier.now)) c.feel-felt.result c.see-new.result c.see-new.new.self c.see-new.new.board c.see-new.new.queue
           same c.feel-felt.ensures accepts c.see-new.ensures c.see-new.auto.board c.see-new.auto.queue;
     }

@@ -18,7 +18,7 @@ returns-in_err-check g c =
       accepted = tt;
       beyond = refl;
       guide = refl;
-      own = λ ground. think_refused (g.G.Lattice.grid d.guide) (g.G.Guide.aim d.guide) m.scale m.value m.kept d c.args.board.now c.args.queue.now c.args.budget ground c.in_err-check.field-0.0 due;
+      own = λ terrain. think_refused (g.G.Lattice.grid d.guide) (g.G.Guide.aim d.guide) m.scale m.value m.kept d c.args.board.now c.args.queue.now c.args.budget terrain c.in_err-check.field-0.0 due;
     })
 
 pub slice_bounds-steps-end : goal.slice_bounds-steps-end
@@ -45,6 +45,6 @@ returns g c =
       accepted = accepts;
       beyond = drop-append-drop k c.args.board.now c.steps.new.board l.size (omega (arith, c.size-size.ensures)) records;
       guide = ap (λ z. z.guide) c.steps.ensures.drive;
-      own = λ ground. think_accepted l (g.G.Guide.aim d.guide) m.scale m.value m.kept d c.args.board.now c.args.queue.now c.args.budget ground
+      own = λ terrain. think_accepted l (g.G.Guide.aim d.guide) m.scale m.value m.kept d c.args.board.now c.args.queue.now c.args.budget terrain
           k c.steps.result.0 c.steps.result.1 c.steps.new.self c.steps.new.board c.steps.new.queue c.size-size.ensures accepts c.steps.ensures.drive c.steps.ensures.thinks records;
     }

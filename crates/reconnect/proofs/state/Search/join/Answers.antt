@@ -12,10 +12,10 @@ not_searching : phase.Ready ≡ phase.Searching → ⊥
 not_searching e = let z : ◌≡◌ {A = ℕ} 0 1 = cc in omega arith
 
 pub returns : goal.returns
-returns g c queue ground aim s searching homewards taken r =
+returns g c queue terrain aim s searching homewards taken r =
     let m = g.M.Measure in
     let l = g.L.Lattice.grid c.args.lattice.now in
-    let w : World = over l ground aim m.scale in
+    let w : World = over l terrain aim m.scale in
     let x = c.args.self.now in
     let a = c.args.taken in
     let f = r.frontier searching in
@@ -28,7 +28,7 @@ returns g c queue ground aim s searching homewards taken r =
       record {
         number = r.number;
         walk = refl;
-        shown = c.retrace.ensures.retraces ground aim s.squares homewards taken r.shown;
+        shown = c.retrace.ensures.retraces terrain aim s.squares homewards taken r.shown;
         numbered = c.retrace.ensures.numbered l.size r.numbered;
         room = r.room;
         frontier = λ e. absurd (not_searching e);

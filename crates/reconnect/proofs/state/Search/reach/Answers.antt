@@ -22,8 +22,8 @@ returns-then-is_rock g c =
     record {
       rest = refl;
       numbered = λ size h. h;
-      reaches = λ l ground aim q k inside small low high exact early room f.
-          let w : World = over l ground aim m.scale in
+      reaches = λ l terrain aim q k inside small low high exact early room f.
+          let w : World = over l terrain aim m.scale in
           let marked = c.mark-mark.ensures ∙ mark_there w ordered m.value m.kept x.number board queue x.waiting q t c.args.cost c.args.cell k inside small exact early f in (
             left_alone w ordered m.value m.kept x.number board queue x.waiting q t c.args.cost c.args.cell k inside small exact early f
                 (elim c.then-is_rock.branch [
@@ -57,8 +57,8 @@ returns g c =
       numbered = λ size h.
           subst (Numbered size x.number) (sym c.set_stage.ensures)
           (numbers_kept x.number (with_stage x.number (stage.Waiting r t.cell)) (λ y o. omega arith) size board c.args.cell h);
-      reaches = λ l ground aim q k inside small low high exact early room f.
-          let w : World = over l ground aim m.scale in
+      reaches = λ l terrain aim q k inside small low high exact early room f.
+          let w : World = over l terrain aim m.scale in
           let marked = c.mark-mark.ensures ∙ mark_there w ordered m.value m.kept x.number board queue x.waiting q t c.args.cost c.args.cell k inside small exact early f in
           let short = extends w ordered m.value m.kept x.number board queue x.waiting q t c.args.cost c.args.cell k inside small exact early f in
           let measured : is_taken (q c.args.cell).stage ≡ false → m.value r ≡ m.scale.extend (m.value t.measure) c.args.cost (is_unseen_mark (q c.args.cell).mark) =

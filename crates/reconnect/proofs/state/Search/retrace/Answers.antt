@@ -16,8 +16,8 @@ loop-step-init g c =
     let l = g.L.Lattice.grid c.args.lattice.now in
     let number = c.args.self.now.number in (
       λ size h. h,
-      λ ground aim q homewards taken shown.
-          let w : World = over l ground aim g.M.Measure.scale in
+      λ terrain aim q homewards taken shown.
+          let w : World = over l terrain aim g.M.Measure.scale in
           subst (λ n. Tracing w g.M.Measure.value number c.args.home q c.args.taken c.args.board.now n c.args.taken) (sym (sub-zero l.size))
           (tracing_begin w g.M.Measure.value number c.args.home q c.args.taken c.args.board.now shown taken),
     )
@@ -34,11 +34,11 @@ loop-step-preserved g c =
       λ size h.
           subst (Numbered size number) (sym c.set_pointer.ensures)
           (numbers_kept number (with_pointer d) (λ x o. o) size board c.back_of-back.result (c.loop-step.invariant.0 size h)),
-      λ ground aim q homewards taken shown.
-          let w : World = over l ground aim g.M.Measure.scale in
+      λ terrain aim q homewards taken shown.
+          let w : World = over l terrain aim g.M.Measure.scale in
           let On : List (Square g.row.M.Denot) → ℕ → ℕ → Type 0 = Tracing w g.M.Measure.value number c.args.home q c.args.taken in
           let one : l.size - c.loop-step._step ≡ suc left = omega (arith, c.size-step-end.ensures) in
-          let so_far : On board (suc left) cell = subst (λ n. On board n cell) one (c.loop-step.invariant.1 ground aim q homewards taken shown) in
+          let so_far : On board (suc left) cell = subst (λ n. On board n cell) one (c.loop-step.invariant.1 terrain aim q homewards taken shown) in
           subst (λ b. On b left c.back_of-back.result) (sym c.set_pointer.ensures)
           (subst (λ b. d ≡ first_direction 8 (λ e. is (l.beside b e) cell) → On (changed (with_pointer d) board b) left b) (sym back)
           (tracing_more w g.M.Measure.value number c.args.home q c.args.taken homewards board left cell so_far c.if-cell-home.false d)
@@ -52,11 +52,11 @@ returns-then-cell-home g c =
     let left = l.size - (c.loop-step._step + 1) in
     record {
       numbered = c.loop-step.invariant.0;
-      retraces = λ ground aim q homewards taken shown.
-          let w : World = over l ground aim g.M.Measure.scale in
+      retraces = λ terrain aim q homewards taken shown.
+          let w : World = over l terrain aim g.M.Measure.scale in
           let one : l.size - c.loop-step._step ≡ suc left = omega (arith, c.size-step-end.ensures) in
           tracing_home w g.M.Measure.value number c.args.home q c.args.taken c.loop-step.board left c.loop-step.cell
-          (subst (λ n. Tracing w g.M.Measure.value number c.args.home q c.args.taken c.loop-step.board n c.loop-step.cell) one (c.loop-step.invariant.1 ground aim q homewards taken shown))
+          (subst (λ n. Tracing w g.M.Measure.value number c.args.home q c.args.taken c.loop-step.board n c.loop-step.cell) one (c.loop-step.invariant.1 terrain aim q homewards taken shown))
           c.if-cell-home.true;
     }
 
@@ -66,9 +66,9 @@ returns g c =
     let number = c.args.self.now.number in
     record {
       numbered = c.loop-step.invariant.0;
-      retraces = λ ground aim q homewards taken shown.
-          let w : World = over l ground aim g.M.Measure.scale in
+      retraces = λ terrain aim q homewards taken shown.
+          let w : World = over l terrain aim g.M.Measure.scale in
           let none : l.size - c.loop-step._step ≡ 0 = omega (arith, c.size-step-end.ensures) in
           tracing_end w g.M.Measure.value number c.args.home q c.args.taken c.loop-step.board c.loop-step.cell
-          (subst (λ n. Tracing w g.M.Measure.value number c.args.home q c.args.taken c.loop-step.board n c.loop-step.cell) none (c.loop-step.invariant.1 ground aim q homewards taken shown));
+          (subst (λ n. Tracing w g.M.Measure.value number c.args.home q c.args.taken c.loop-step.board n c.loop-step.cell) none (c.loop-step.invariant.1 terrain aim q homewards taken shown));
     }

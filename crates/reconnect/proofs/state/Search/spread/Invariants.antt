@@ -12,8 +12,8 @@ abbrev pub invariant-loop-bit : goal.invariant-loop-bit
 invariant-loop-bit g l =
     (l.self ≡ with_entries l.initial.self l.self.waiting)
     × ((size : ℕ) → Numbered size l.initial.self.number l.initial.board → Numbered size l.initial.self.number l.board)
-    × ((ground : Ground) (aim : Guide) (q : Squares (over (g.L.Lattice.grid l.lattice) ground aim g.M.Measure.scale)) →
+    × ((terrain : Ground) (aim : Guide) (q : Squares (over (g.L.Lattice.grid l.lattice) terrain aim g.M.Measure.scale)) →
     l.taken < (g.L.Lattice.grid l.lattice).size → is_taken (q l.taken).stage ≡ true → l.initial.self.waiting + 8 ≤ length l.initial.queue →
     Frontier g.M.Measure.scale g.M.Measure.value g.M.Measure.kept (g.L.Lattice.grid l.lattice).size l.initial.self.number l.initial.board l.initial.queue l.initial.self.waiting q →
-    Frontier g.M.Measure.scale g.M.Measure.value g.M.Measure.kept (g.L.Lattice.grid l.lattice).size l.initial.self.number l.board l.queue l.self.waiting (spread_by (over (g.L.Lattice.grid l.lattice) ground aim g.M.Measure.scale) (g.met.L.Lattice.lawful l.lattice) q l.taken l.bit)
+    Frontier g.M.Measure.scale g.M.Measure.value g.M.Measure.kept (g.L.Lattice.grid l.lattice).size l.initial.self.number l.board l.queue l.self.waiting (spread_by (over (g.L.Lattice.grid l.lattice) terrain aim g.M.Measure.scale) (g.met.L.Lattice.lawful l.lattice) q l.taken l.bit)
     × (l.self.waiting ≤ l.initial.self.waiting + l.bit))

@@ -7,21 +7,21 @@ use Rattle.reconnect.proofs.Walking.{rests, goes_on}
 use Rattle.reconnect.proofs.state.Search.step.Goals as goal
 
 pub returns-in-Resting : goal.returns-in-Resting
-returns-in-Resting g c ground s n fit reached searching home r =
+returns-in-Resting g c terrain s n fit reached searching home r =
     let m = g.M.Measure in
     let l = g.G.Lattice.grid c.args.guide.now in
     let aim = g.G.Guide.aim c.args.guide.now in
-    let w : World = over l ground aim m.scale in
+    let w : World = over l terrain aim m.scale in
     let at_rest = sym r.walk ∙ ap walk_shown c.in-Resting.is in
     subst (ComesTo w m.value m.kept c.take.result (record { search = c.take.new.self; board = c.take.new.board; queue = c.take.new.queue })) (sym (rests w s at_rest))
-    (c.take.ensures l ground aim s searching at_rest r)
+    (c.take.ensures l terrain aim s searching at_rest r)
 
 pub returns-in-Walking : goal.returns-in-Walking
-returns-in-Walking g c ground s n fit reached searching home r =
+returns-in-Walking g c terrain s n fit reached searching home r =
     let m = g.M.Measure in
     let l = g.G.Lattice.grid c.args.guide.now in
     let aim = g.G.Guide.aim c.args.guide.now in
-    let w : World = over l ground aim m.scale in
+    let w : World = over l terrain aim m.scale in
     let under-way = sym r.walk ∙ ap walk_shown c.in-Walking.is in
     subst (ComesTo w m.value m.kept c.walk_on.result (record { search = c.walk_on.new.self; board = c.walk_on.new.board; queue = c.walk_on.new.queue })) (sym (goes_on w s c.in-Walking.taken c.in-Walking.at under-way))
-    (c.walk_on.ensures ground s n fit reached searching home under-way r)
+    (c.walk_on.ensures terrain s n fit reached searching home under-way r)

@@ -14,10 +14,10 @@ use Rattle.reconnect.proofs.Taking.{stages_as, shuts, shut_represents, takes, ta
 use Rattle.reconnect.proofs.state.Search.take.Goals as goal
 
 pub returns-in_default : goal.returns-in_default
-returns-in_default g c l ground aim s searching rest r =
+returns-in_default g c l terrain aim s searching rest r =
     let m = g.M.Measure in
     let ordered = g.met.M.Measure.ordered in
-    let w : World = over l ground aim m.scale in
+    let w : World = over l terrain aim m.scale in
     let x = c.args.self.now in
     let memory : Memory g.row.M.Denot = record { search = x; board = c.args.board.now; queue = c.args.queue.now } in
     let said = c.in_default.ensures in
@@ -29,10 +29,10 @@ returns-in_default g c l ground aim s searching rest r =
     )
 
 pub returns : goal.returns
-returns g c l ground aim s searching rest r =
+returns g c l terrain aim s searching rest r =
     let m = g.M.Measure in
     let ordered = g.met.M.Measure.ordered in
-    let w : World = over l ground aim m.scale in
+    let w : World = over l terrain aim m.scale in
     let x = c.args.self.now in
     let chosen = c.in-Some.chosen in
     let memory : Memory g.row.M.Denot = record { search = x; board = c.args.board.now; queue = c.args.queue.now } in

@@ -16,24 +16,24 @@ use Rattle.reconnect.proofs.Walking.{unpainted_some, unpainted_none, joined_from
 use Rattle.reconnect.proofs.state.Search.walk_on.Goals as goal
 
 pub returns-then-at-goal : goal.returns-then-at-goal
-returns-then-at-goal g c ground s n fit reached searching home under-way r =
+returns-then-at-goal g c terrain s n fit reached searching home under-way r =
     let m = g.M.Measure in
     let l = g.G.Lattice.grid c.args.guide.now in
     let aim = g.G.Guide.aim c.args.guide.now in
-    let w : World = over l ground aim m.scale in
+    let w : World = over l terrain aim m.scale in
     let a = c.args.taken in
     let after : Memory g.row.M.Denot = record { search = c.join.new.self; board = c.join.new.board; queue = c.args.queue.now } in
     let taken = (walk_inside w fit s n reached searching a c.args.at under-way).0 in
     subst (ComesTo w m.value m.kept c.join.result after) (sym (joins w s a c.args.at (c.if-at-goal.true ∙ c.goal.ensures)))
     (subst (λ h. ComesTo w m.value m.kept c.join.result after (joined_from w h s a)) (sym home)
-    (c.join.ensures c.args.queue.now ground aim s searching (homewards w fit s n reached searching c.args.home home) taken r))
+    (c.join.ensures c.args.queue.now terrain aim s searching (homewards w fit s n reached searching c.args.home home) taken r))
 
 pub returns-in-Some : goal.returns-in-Some
-returns-in-Some g c ground s n fit reached searching home under-way r =
+returns-in-Some g c terrain s n fit reached searching home under-way r =
     let m = g.M.Measure in
     let l = g.G.Lattice.grid c.args.guide.now in
     let aim = g.G.Guide.aim c.args.guide.now in
-    let w : World = over l ground aim m.scale in
+    let w : World = over l terrain aim m.scale in
     let a = c.args.taken in
     let b = c.args.at in
     let x = c.args.self.now in
@@ -51,12 +51,12 @@ returns-in-Some g c ground s n fit reached searching home under-way r =
     )
 
 pub returns-in-None : goal.returns-in-None
-returns-in-None g c ground s n fit reached searching home under-way r =
+returns-in-None g c terrain s n fit reached searching home under-way r =
     let m = g.M.Measure in
     let l = g.G.Lattice.grid c.args.guide.now in
     let lawful = g.met.G.Lattice.lawful c.args.guide.now in
     let aim = g.G.Guide.aim c.args.guide.now in
-    let w : World = over l ground aim m.scale in
+    let w : World = over l terrain aim m.scale in
     let a = c.args.taken in
     let b = c.args.at in
     let x = c.args.self.now in
@@ -74,7 +74,7 @@ returns-in-None g c ground s n fit reached searching home under-way r =
     let spreads : Spreads l m.scale m.value m.kept a x.number board c.spread.new.board c.args.queue.now c.spread.new.queue x.waiting c.spread.new.self.waiting =
     subst (λ z. Spreads l m.scale m.value m.kept a x.number z c.spread.new.board c.args.queue.now c.spread.new.queue x.waiting c.spread.new.self.waiting) c.set_paint.ensures c.spread.ensures.spreads in
     let new =
-    spreads ground aim (painting w s b) a-inside (ap is_taken (same_stage w m.value m.kept memory s searching a b under-way r a) ∙ Walked-from.0)
+    spreads terrain aim (painting w s b) a-inside (ap is_taken (same_stage w m.value m.kept memory s searching a b under-way r a) ∙ Walked-from.0)
     (room_to_spread w m.value m.kept memory s searching a b under-way r lawful a-inside Walked-from.0)
     (frontier_painted w m.value m.kept memory s searching a b under-way r) in
     let As : Search → Memory g.row.M.Denot = λ z. record { search = z; board = c.spread.new.board; queue = c.spread.new.queue } in
