@@ -4,7 +4,7 @@ use Rattle.std.specs.Option.{option_map}
 use Rattle.model.specs.declared.Phase.TheVariants as phase
 use Rattle.model.specs.Plain.{World, fresh}
 use Rattle.model.specs.Promise.{Fit}
-use Rattle.model.proofs.Reachable.{reachable_fresh}
+use Rattle.model.proofs.Reachable.{reached_fresh}
 use Rattle.measure.specs.declared.queue.Entry.{Entry}
 use Rattle.board.specs.declared.square.Square.{Square}
 use Rattle.board.specs.Board.{shown_as}
@@ -48,7 +48,7 @@ module _ (w : World) (fit : Fit w) {G M : Type 0} (value : M → w.scale.Value) 
   unfolding fresh
   begun_owns = record {
     fit = fit;
-    reached = reachable_fresh w;
+    reached = reached_fresh w;
     rock = refl;
     at = refl;
     records = records;

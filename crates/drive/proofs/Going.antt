@@ -10,7 +10,7 @@ use Rattle.model.specs.Plain.{World, State, Answer, refused, moved, go, call, an
 use Rattle.model.specs.Promise.{Reached}
 use Rattle.model.specs.Worlds.{over}
 use Rattle.model.proofs.Basics.Chains.{may}
-use Rattle.model.proofs.Reachable.{Sound, reachable_call, reachable_sound}
+use Rattle.model.proofs.Reachable.{Sound, reached_call, reached_sound}
 use Rattle.model.proofs.Run.ByGo.{gone_on}
 use Rattle.measure.specs.declared.queue.Entry.{Entry}
 use Rattle.board.specs.declared.square.Square.{Square}
@@ -86,7 +86,7 @@ module _ (w : World) {G M : Type 0} (value : M → w.scale.Value) (kept : M → 
     }
 
     reached : Reached w then (calls_after go (moved to) n)
-    reached = let R : State w × Answer → Type 0 = λ r. Reached w r.0 (calls_after go r.1 n) in subst R go_call (reachable_call w s n own.reached go)
+    reached = let R : State w × Answer → Type 0 = λ r. Reached w r.0 (calls_after go r.1 n) in subst R go_call (reached_call w s n own.reached go)
 
     module _ (direction cell : ℕ) (terrain : Ground) (along : direction ≡ pointer_at m.board d.cell) (landed : terrain ≡ lands w.lattice m.terrain direction) (onto : cell ≡ terrain.at) where
       abbrev d' : Drive G
@@ -106,7 +106,7 @@ module _ (w : World) {G M : Type 0} (value : M → w.scale.Value) (kept : M → 
 
       owned : Own w value kept left then (calls_after go (moved to) n)
       owned =
-          let then-few = few w own.fit then (reachable_sound w own.fit then (calls_after go (moved to) n) reached) in
+          let then-few = few w own.fit then (reached_sound w own.fit then (calls_after go (moved to) n) reached) in
           let moves : d.moves + 1 ≡ then.moves = ap (λ k. k + 1) own.moves ∙ add-one s.moves in
           let length : d.length + w.lattice.cost direction ≡ then.length = ap (λ k. k + w.lattice.cost direction) own.length ∙ ap (λ k. s.length + w.lattice.cost k) as_pointed in
           record {

@@ -13,7 +13,7 @@ use Rattle.model.specs.Plain as plain
 use Rattle.model.specs.Plain.{World, State, Answer, refused, felt, look, call, answer, looked, felt_byte, new_rock, kept_pointer}
 use Rattle.model.specs.Promise.{Reached}
 use Rattle.model.proofs.Basics.Tests.{decide}
-use Rattle.model.proofs.Reachable.{Sound, reachable_call, reachable_sound}
+use Rattle.model.proofs.Reachable.{Sound, reached_call, reached_sound}
 use Rattle.model.proofs.Run.ByLook.{looked_as}
 use Rattle.measure.specs.declared.queue.Entry.{Entry}
 use Rattle.board.specs.declared.square.Square.{Square}
@@ -212,11 +212,11 @@ module _ (w : World) {G M : Type 0} (value : M → w.scale.Value) (kept : M → 
     left = record { drive = d'; board = board' ++ rest; queue = queue'; terrain = m.terrain }
 
     reached : Reached w then (calls_after look told n)
-    reached = let R : State w × Answer → Type 0 = λ r. Reached w r.0 (calls_after look r.1 n) in subst R (look_call w s unseen) (reachable_call w s n own.reached look)
+    reached = let R : State w × Answer → Type 0 = λ r. Reached w r.0 (calls_after look r.1 n) in subst R (look_call w s unseen) (reached_call w s n own.reached look)
 
     owned : After (not (eqb (left_pointer w s) 0)) → Own w value kept left then (calls_after look told n)
     owned a =
-        let then-few = few w own.fit then (reachable_sound w own.fit then (calls_after look told n) reached) in
+        let then-few = few w own.fit then (reached_sound w own.fit then (calls_after look told n) reached) in
         let more : d.found + count ≡ s.found + new_rock w s = ap (λ k. k + count) own.found ∙ ap (λ k. s.found + k) counted_new in
         record {
           fit = own.fit;

@@ -3,7 +3,7 @@ use Rattle.std.proofs.Common.{◌≡◌, ℕ, suc, ◌+◌, ◌-◌, ◌*◌, �
 use mathlib.Core.Bool.{and-false}
 use Rattle.model.specs.Plain.{World, State, Answer, refused, call}
 use Rattle.model.specs.Promise.{Fit, passable, acts}
-use Rattle.model.proofs.Reachable.{Sound, reachable_sound, passable_few}
+use Rattle.model.proofs.Reachable.{Sound, reached_sound, passable_few}
 use Rattle.drive.specs.declared.call.Call.{Call}
 use Rattle.drive.specs.declared.call.Lent.{Lent}
 use Rattle.drive.specs.declared.refusal.Refusal.{Refusal}
@@ -34,7 +34,7 @@ few w fit s sound =
 
 module _ (w : World) {G M : Type 0} (value : M → w.scale.Value) (kept : M → ℕ → Type 0) (m : DriveMemory G M) (s : State w) (n : ℕ) (own : Own w value kept m s n) where
   pub own_sound : Sound w s
-  own_sound = reachable_sound w own.fit s n own.reached
+  own_sound = reached_sound w own.fit s n own.reached
 
   -- of an own drive, with its own memory lent, a call is refused by its phase alone
   pub own_refusal : (k : Call) (lent : Lent) → w.lattice.size ≤ lent.records → queue_is_short lent.entries w.lattice.size ≡ false → elsewhere lent.at m.drive.cell ≡ false →

@@ -10,7 +10,7 @@ use Rattle.model.specs.Promise.{Fit, Reached}
 use Rattle.model.specs.Worlds.{over}
 use Rattle.model.proofs.Search.Steps.{Step, step, none_waits, takes, joins, stops, walks}
 use Rattle.model.proofs.Run.ByThink.{thought_on, thought_joins, thought_closes}
-use Rattle.model.proofs.Reachable.{reachable_call}
+use Rattle.model.proofs.Reachable.{reached_call}
 use Rattle.measure.specs.declared.queue.Entry.{Entry}
 use Rattle.board.specs.declared.square.Square.{Square}
 use Rattle.reconnect.specs.declared.state.Course.{Course as Course'}
@@ -123,7 +123,7 @@ module _ (w : World) where
   spent_reached s n h p zero t e = (n, subst (λ z. Reached w z n) (ap (λ r. r.0) e) h)
   spent_reached s n h p (suc i) t e =
       let m : ℕ = calls_after (think (suc i)) (call w s (think (suc i))).1 n in
-      (m, subst (λ z. Reached w z m) (ap (λ r. r.0) (think_call s p i ∙ e)) (reachable_call w s n h (think (suc i))))
+      (m, subst (λ z. Reached w z m) (ap (λ r. r.0) (think_call s p i ∙ e)) (reached_call w s n h (think (suc i))))
 
 module _ (l : Lattice) (aim : Guide) (scale : Scale) {M : Type 0} (value : M → scale.Value) (kept : M → ℕ → Type 0) (home : ℕ) where
   -- some steps are done, and the search goes on
@@ -254,7 +254,7 @@ module _ (l : Lattice) (aim : Guide) (scale : Scale) {G M : Type 0} (value : M �
           let R : State world × Answer → Type 0 = λ r. Reached world r.0 (calls_after (think budget) r.1 n) in
           record {
             fit = own.fit;
-            reached = subst R as_called (reachable_call world s n own.reached (think budget));
+            reached = subst R as_called (reached_call world s n own.reached (think budget));
             rock = own.rock;
             at = own.at ∙ sym stays.same.cell;
             records = subst (λ c. c ≤ length (board' ++ drop k board)) cells (put_length k board' records (drop k board));

@@ -32,9 +32,10 @@ closing_line ending moves far rock = written_line (ending_word ending) (moves �
 
 -- ---- letting go
 
--- when a pen may be let go: never, for every pen there is stands in an open record; closing and abandoning take it apart instead
+-- when a pen may be let go: if nothing was written. So never, for every pen that is handed out stands in an open record, behind its row 0;
+-- closing and abandoning take it apart instead
 abbrev pub LetGo : Pen → Type 0
-LetGo pen = ⊥
+LetGo pen = pen.at ≡ 0
 
 -- ---- beginning: the heading as its reader checks it, then 131 bytes
 

@@ -14,7 +14,7 @@ use Rattle.model.proofs.Basics.Counting.{count_same, count_fewer, count_at_most}
 use Rattle.model.proofs.Search.Reach.{taken_live}
 use Rattle.model.proofs.Search.Sought.{WalkInside, Sought}
 use Rattle.model.proofs.Search.Steps.{painting, joined, stopped, walked}
-use Rattle.model.proofs.Reachable.{rocks, unseens, reachable_sound}
+use Rattle.model.proofs.Reachable.{rocks, unseens, reached_sound}
 use Rattle.measure.specs.declared.queue.Entry.{Entry}
 use Rattle.board.specs.declared.square.Square.{Square}
 use Rattle.board.specs.Board.{changed, with_paint, pointer_at, paint_at, stage_at, Shown}
@@ -91,7 +91,7 @@ module _ (w : World) where
     size = w.lattice.size
 
     abbrev cells : Sought w s.cell (rocks w s) (unseens w s) (λ a. (s.squares a).stage) s.walk
-    cells = (reachable_sound w fit s n reached).searching searching
+    cells = (reached_sound w fit s n reached).searching searching
 
     pub homewards : (home : ℕ) → s.cell ≡ home → Homewards w home s.squares
     homewards home e = record {
