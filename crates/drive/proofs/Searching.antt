@@ -21,7 +21,7 @@ use Rattle.reconnect.specs.Represents.{Memory, walk_shown, Represents}
 use Rattle.reconnect.specs.Beginning.{Begins}
 
 -- an entry that is put into an empty queue, which has room, is its only one
-pub pushed_first : {M : Type 0} (s : Scale) (value : M → s.Value) (xs ys : List (Entry M)) (e : Entry M) (r : Option ℕ) →
+pushed_first : {M : Type 0} (s : Scale) (value : M → s.Value) (xs ys : List (Entry M)) (e : Entry M) (r : Option ℕ) →
     0 < length xs → Pushed s value xs 0 e ys r → (unwrap_or r 0 ≡ 1) × Added s value xs 0 e ys 1
 pushed_first s value xs ys e None room p = absurd (let h = p.0 in omega arith)
 pushed_first s value xs ys e (Some n) room p =

@@ -1,5 +1,5 @@
 -- When a look is refused, and what it leaves.
-use Rattle.std.specs.Prelude.{◌≡◌, ℕ, ◌+◌, min, true, false, List, length, Some, Option, ◌==◌, count_ones, nat_eq}
+use Rattle.std.specs.Prelude.{◌≡◌, ℕ, true, false, List, length, Some, Option, ◌==◌, count_ones, nat_eq}
 use Rattle.model.specs.declared.Phase.{Phase}
 use Rattle.model.specs.declared.Phase.TheVariants as phase
 use Rattle.model.specs.Lattice.{Lattice}
@@ -13,6 +13,7 @@ use Rattle.board.specs.Board.{changed, pointer_at, with_stage}
 use Rattle.board.specs.Around.{Remade, new_bits_of, seen_square}
 use Rattle.reconnect.specs.declared.state.Search.{Search}
 use Rattle.reconnect.specs.declared.state.Walk.TheVariants as walk
+use Rattle.reconnect.specs.Beginning.{next_number}
 use Rattle.drive.specs.declared.call.Call.TheVariants.{Look}
 use Rattle.drive.specs.declared.drive.Drive.{Drive}
 use Rattle.drive.specs.declared.refusal.Refusal.{Refusal}
@@ -23,9 +24,9 @@ use Rattle.drive.specs.Going.{counted}
 abbrev pub look_refusal : {G M : Type 0} → Drive G → List (Square M) → List (Entry M) → Lattice → Ground → Option Refusal
 look_refusal d board queue l terrain = call_refusal d Look (record { records = length board; entries = Some (length queue); at = Some terrain.at }) l.size
 
--- the number of the next search, which stays where it would pass 16 bits
+-- the number of the next search
 abbrev pub next_search : ℕ → ℕ
-next_search n = min (n + 1) 65535
+next_search = next_number
 
 -- a drive that found rock, and then, in another phase, is ready or begins a search
 abbrev pub found_more : {G : Type 0} → Drive G → ℕ → Drive G
