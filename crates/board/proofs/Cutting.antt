@@ -43,9 +43,6 @@ module _ (l : Lattice) (lawful : Lawful l) where
   found a d b e = beside_neighbours (record { lattice = l; rock = λ _. false; start = 0; guide = record { goal = 0; distance = λ _. None }; scale = length_scale }) lawful a d b e
 
   module _ {M : Type 0} (b : ℕ) where
-    pub cut_begin : (xs : List (Square M)) → Remade (cut_upto l b 0) xs xs
-    cut_begin xs a = mapped_none _ (slice_get xs a) (λ x. refl)
-
     same_direction : (n m a : ℕ) (o : Option (Square M)) → towards_by l b n a ≡ towards_by l b m a → option_map (cut_upto l b n a) o ≡ option_map (cut_upto l b m a) o
     same_direction n m a o e = mapped_same _ _ o (λ x. ap (λ d. cond (not (eqb d 0) && is (l.beside a x.pointer) b) (with_pointer 0 x) x) e)
 
@@ -100,13 +97,6 @@ module _ (l : Lattice) (lawful : Lawful l) where
             ap (λ t. cond (t && is (l.beside a x.pointer) b) (with_pointer 0 x) x) (found b (l.opposite x.pointer) a (lawful.back a x.pointer b (is_some _ b e)))
 
   module _ {M : Type 0} (here byte : ℕ) where
-    pub strike_begin : (xs : List (Square M)) → Remade (cut_by l here byte 0) xs xs
-    strike_begin xs a = mapped_none _ (slice_get xs a) (λ x. ap (λ t. cond t (with_pointer 0 x) x) (none (l.beside a x.pointer)))
-      where
-        none : (o : Option ℕ) → test_at o (struck l here byte 0) ≡ false
-        none None = refl
-        none (Some c) = refl
-
     -- a direction whose bit is not set
     pub strike_clear : (n : ℕ) (xs ys : List (Square M)) → direction_bit byte (suc n) ≡ false → Remade (cut_by l here byte n) xs ys → Remade (cut_by l here byte (suc n)) xs ys
     strike_clear n xs ys clear h a = h a ∙ mapped_same _ _ (slice_get xs a) (λ x. ap (λ t. cond t (with_pointer 0 x) x) (test_same (l.beside a x.pointer) _ _ (λ c. same c (is (l.beside here (suc n)) c) refl)))

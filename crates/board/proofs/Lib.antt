@@ -3,3 +3,4 @@ pub mod Towards
 pub mod Marking
 pub mod Cutting
 pub mod Showing
+pub mod Marks

@@ -43,9 +43,6 @@ module _ {M : Type 0} (l : Lattice) (lawful : Lawful l) (here byte : ℕ) where
   abbrev by_direction : ℕ → Square M → Square M
   by_direction d x = cond (eqb d 0) x (with_mark (felt_mark_of (direction_bit byte d)) x)
 
-  pub marks_begin : (xs : List (Square M)) → Remade (marked_by l here byte 0) xs xs
-  marks_begin xs a = mapped_none _ (slice_get xs a) (λ x. refl)
-
   same_direction : (n m a : ℕ) (o : Option (Square M)) → towards_by l here n a ≡ towards_by l here m a → option_map (marked_by l here byte n a) o ≡ option_map (marked_by l here byte m a) o
   same_direction n m a o e = mapped_same _ _ o (λ x. ap (λ d. by_direction d x) e)
 

@@ -1,5 +1,5 @@
 -- A board whose records are those of a board of the plain drive: read, and changed.
-use Rattle.std.proofs.Common.{◌≡◌, ℕ, ◌<◌, ◌≤◌, Bool, true, false, cond, eqb, List, Some, None, Option, sym, refl, ap, ◌∙◌, subst, arith, eq-eqb}
+use Rattle.std.proofs.Common.{◌≡◌, ℕ, ◌<◌, ◌≤◌, Bool, true, false, cond, eqb, List, Some, None, Option, sym, refl, ap, ◌∙◌, subst, eq-eqb}
 use native.Mathlib.Decide.{ℕ_discrete}
 use Rattle.std.specs.Option.{option_map}
 use Rattle.std.specs.List.{slice_get}
@@ -16,25 +16,22 @@ module _ {M V : Type 0} (value : M → V) (n : ℕ) where
   pub shown_some : (x : Square M) (y : plain.Square V) → Some (shown_as value n x) ≡ Some y → shown_as value n x ≡ y
   shown_some x y e = cc
 
-  nothing_shown : {X : Type 0} (y : plain.Square V) → None ≡ Some y → X
-  nothing_shown y e = absurd (let z : ◌≡◌ {A = ℕ} 0 1 = cc in omega arith)
-
   -- what a record that is shown says
   module _ (y : plain.Square V) where
     pub mark_shown : (o : Option (Square M)) → option_map (shown_as value n) o ≡ Some y → mark_in o ≡ y.mark
-    mark_shown None e = nothing_shown y e
+    mark_shown None e = cc
     mark_shown (Some x) e = ap (λ z. z.mark) (shown_some x y e)
 
     pub pointer_shown : (o : Option (Square M)) → option_map (shown_as value n) o ≡ Some y → pointer_in o ≡ y.pointer
-    pointer_shown None e = nothing_shown y e
+    pointer_shown None e = cc
     pointer_shown (Some x) e = ap (λ z. z.pointer) (shown_some x y e)
 
     pub paint_shown : (o : Option (Square M)) → option_map (shown_as value n) o ≡ Some y → paint_in o ≡ y.paint
-    paint_shown None e = nothing_shown y e
+    paint_shown None e = cc
     paint_shown (Some x) e = ap (λ z. z.paint) (shown_some x y e)
 
     pub stage_shown_in : (o : Option (Square M)) → option_map (shown_as value n) o ≡ Some y → stage_shown value (stage_in n o) ≡ y.stage
-    stage_shown_in None e = nothing_shown y e
+    stage_shown_in None e = cc
     stage_shown_in (Some x) e = by (eqb x.search n) ∙ ap (λ z. z.stage) (shown_some x y e)
       where
         by : (t : Bool) → stage_shown value (cond t x.stage stage.Idle) ≡ cond t (stage_shown value x.stage) plain.idle
@@ -44,7 +41,7 @@ module _ {M V : Type 0} (value : M → V) (n : ℕ) where
   -- one record is changed
   module _ (size : ℕ) (board : List (Square M)) (q : ℕ → plain.Square V) (c : ℕ) (f : Square M → Square M) (g : plain.Square V → plain.Square V) (same : (x : Square M) → shown_as value n (f x) ≡ g (shown_as value n x)) where
     changed_shown : (o : Option (Square M)) → option_map (shown_as value n) o ≡ Some (q c) → option_map (shown_as value n) (option_map f o) ≡ Some (g (q c))
-    changed_shown None e = nothing_shown (q c) e
+    changed_shown None e = cc
     changed_shown (Some x) e = ap Some (same x ∙ ap g (shown_some x (q c) e))
 
     pub shown_changed : Shown value size n board q → Shown value size n (changed f board c) (put q c (g (q c)))
@@ -62,7 +59,7 @@ module _ {M V : Type 0} (value : M → V) (n : ℕ) where
 module _ {M : Type 0} (n : ℕ) where
   -- the stage where it is set, and elsewhere
   staged_in : (t : Stage M) (o : Option (Square M)) (x : Square M) → o ≡ Some x → stage_in n (option_map (with_stage n t) o) ≡ t
-  staged_in t None x e = absurd (let z : ◌≡◌ {A = ℕ} 0 1 = cc in omega arith)
+  staged_in t None x e = cc
   staged_in t (Some y) x e = ap (λ b. cond b t stage.Idle) (eq-eqb n n refl)
 
   pub stage_set : (t : Stage M) (board : List (Square M)) (c : ℕ) (x : Square M) → slice_get board c ≡ Some x → stage_at n (changed (with_stage n t) board c) c ≡ t
@@ -92,5 +89,5 @@ module _ {M : Type 0} (n : ℕ) where
   ]
     where
       here : c < size → (o : Option (Square M)) → slice_get board c ≡ o → option_map f o ≡ Some x → x.search ≤ n
-      here m None p q = absurd (let z : ◌≡◌ {A = ℕ} 0 1 = cc in omega arith)
+      here m None p q = cc
       here m (Some y) p q = let s : f y ≡ x = cc in subst (λ z. z.search ≤ n) s (h y (old c y m p))

@@ -1,5 +1,5 @@
 // What a look does to the records around a cell.
-ghost use Rattle.std.specs.Prelude.{◌≡◌, ◌+◌, ◌<◌, not};
+ghost use Rattle.std.specs.Prelude.{◌≡◌, ◌≤◌, not};
 ghost use Rattle.model.specs.Lattice.{is};
 ghost use Rattle.model.specs.Plain.{is_rock_mark};
 ghost use Rattle.board.specs.Board.{mark_at, pointer_at};
@@ -27,10 +27,7 @@ impl<M: Copy> Rocks for Unmarked<'_, M> {
     ghost rock = { λ s a. not (is_rock_mark (mark_at s.board.now a)) };
 
     fn is_rock(&self, cell: u32) -> bool {
-        match mark(self.board, cell) {
-            Mark::Rock => false,
-            Mark::Unseen | Mark::Passable => true,
-        }
+        mark(self.board, cell) != Mark::Rock
     }
 }
 
@@ -38,9 +35,9 @@ impl<M: Copy> Rocks for Unmarked<'_, M> {
 pub fn cut_around<L: Lattice, M: Copy>(lattice: &L, here: u32, rocks: u8, board: &mut [Square<M>])
     ensures { Remade (cut_by (L.Lattice.grid lattice.now) here rocks 8) board.old board.new }
 {
-    for bit in 0..8u8 {
-        if has_bit(rocks, bit) {
-            if let Some(rock) = lattice.beside(here, bit + 1) {
+    for direction in 1..=8 {
+        if has_bit(rocks, direction) {
+            if let Some(rock) = lattice.beside(here, direction) {
                 cut_to(lattice, rock, board);
             }
         }
@@ -51,8 +48,8 @@ pub fn cut_around<L: Lattice, M: Copy>(lattice: &L, here: u32, rocks: u8, board:
 fn cut_to<L: Lattice, M: Copy>(lattice: &L, rock: u32, board: &mut [Square<M>])
     ensures { Remade (cut_towards (L.Lattice.grid lattice.now) rock) board.old board.new }
 {
-    for bit in 0..8u8 {
-        if let Some(cell) = lattice.beside(rock, bit + 1) {
+    for direction in 1..=8 {
+        if let Some(cell) = lattice.beside(rock, direction) {
             if points_to(lattice, board, cell, rock) {
                 set_pointer(board, cell, 0);
             }
@@ -64,10 +61,7 @@ fn cut_to<L: Lattice, M: Copy>(lattice: &L, rock: u32, board: &mut [Square<M>])
 fn points_to<L: Lattice, M: Copy>(lattice: &L, board: &[Square<M>], cell: u32, to: u32) -> bool
     ensures { result ≡ is ((L.Lattice.grid lattice.now).beside cell (pointer_at board.now cell)) to }
 {
-    match next(lattice, board, cell) {
-        Some(next) => next == to,
-        None => false,
-    }
+    next(lattice, board, cell) == Some(to)
 }
 
 // Where the pointer of a cell leads.
@@ -81,29 +75,31 @@ pub fn next<L: Lattice, M: Copy>(lattice: &L, board: &[Square<M>], cell: u32) ->
 pub fn mark_around<L: Lattice, M: Copy>(lattice: &L, here: u32, felt: u8, board: &mut [Square<M>])
     ensures { Remade (marked_by (L.Lattice.grid lattice.now) here felt 8) board.old board.new }
 {
-    for bit in 0..8u8 {
-        if let Some(next) = lattice.beside(here, bit + 1) {
-            set_mark(board, next, felt_mark(felt, bit));
+    for direction in 1..=8 {
+        if let Some(next) = lattice.beside(here, direction) {
+            set_mark(board, next, felt_mark(felt, direction));
         }
     }
 }
 
-// The mark of the neighbour whose bit is given.
-fn felt_mark(felt: u8, bit: u8) -> Mark
-    requires { bit < 8 }
-    ensures { result ≡ felt_mark_of (direction_bit felt (bit + 1)) }
+// The mark of the neighbour in a direction.
+fn felt_mark(felt: u8, direction: u8) -> Mark
+    requires at_least { 1 ≤ direction }
+    requires at_most { direction ≤ 8 }
+    ensures { result ≡ felt_mark_of (direction_bit felt direction) }
 {
-    if has_bit(felt, bit) {
+    if has_bit(felt, direction) {
         Mark::Rock
     } else {
         Mark::Passable
     }
 }
 
-// Whether a bit of a byte is set: it is that of direction bit + 1.
-fn has_bit(byte: u8, bit: u8) -> bool
-    requires { bit < 8 }
-    ensures { result ≡ direction_bit byte (bit + 1) }
+// Whether the bit of a direction is set in a byte; a felt byte is read by shift and mask.
+fn has_bit(byte: u8, direction: u8) -> bool
+    requires at_least { 1 ≤ direction }
+    requires at_most { direction ≤ 8 }
+    ensures { result ≡ direction_bit byte direction }
 {
-    byte >> bit & 1 == 1
+    byte >> (direction - 1) & 1 == 1
 }

@@ -1,6 +1,8 @@
 // The board: one record for each cell. Only this file knows how a record is laid out.
 ghost use Rattle.std.specs.Prelude.{◌≡◌, slice_set};
 ghost use Rattle.std.specs.List.{slice_get};
+ghost use Rattle.std.specs.Option.{MatchOption};
+ghost use Rattle.board.specs.declared.square.Square.{Square};
 ghost use Rattle.board.specs.Board.{mark_at, pointer_at, paint_at, stage_at, with_mark, with_pointer, with_paint, with_stage, changed};
 
 use model::Mark;
@@ -37,59 +39,33 @@ impl<M: Copy> Square<M> {
             stage: Stage::Idle,
         }
     }
-
-    // The same with another mark.
-    fn marked(self, mark: Mark) -> Square<M>
-        ensures { result ≡ with_mark mark self }
-    {
-        Square { mark, ..self }
-    }
-
-    // The same with another pointer.
-    fn pointed(self, pointer: u8) -> Square<M>
-        ensures { result ≡ with_pointer pointer self }
-    {
-        Square { pointer, ..self }
-    }
-
-    // The same with another paint.
-    fn painted(self, paint: u16) -> Square<M>
-        ensures { result ≡ with_paint paint self }
-    {
-        Square { paint, ..self }
-    }
-
-    // The same with a stage in the search of a number.
-    fn staged(self, search: u16, stage: Stage<M>) -> Square<M>
-        ensures { result ≡ with_stage search stage self }
-    {
-        Square {
-            search,
-            stage,
-            ..self
-        }
-    }
 }
 
 // The record of a cell.
 fn record_of<M: Copy>(board: &[Square<M>], cell: u32) -> Option<Square<M>>
     ensures { result ≡ slice_get board.now cell }
 {
-    let cell = cell as usize;
-    if cell < board.len() {
-        Some(board[cell])
-    } else {
-        None
-    }
+    board.get(cell as usize).copied()
 }
 
 // Puts a record in the place of a cell's; beyond the board nothing is written.
 pub fn put<M: Copy>(board: &mut [Square<M>], cell: u32, square: Square<M>)
     ensures { board.new ≡ slice_set board.old cell square }
 {
+    // By index, since a proof knows no element of a slice after `get_mut`.
     let cell = cell as usize;
     if cell < board.len() {
         board[cell] = square;
+    }
+}
+
+// Puts in the place of a cell's record what a closure makes of it; beyond the board nothing is written.
+fn change<M: Copy, F: FnOnce(Square<M>) -> Square<M>>(board: &mut [Square<M>], cell: u32, by: F)
+    requires { F.IsAlwaysCallable by }
+    ensures { MatchOption (slice_get board.old cell) (board.new ≡ board.old) (λ x. (y : Square M) × F.post by x y × (board.new ≡ slice_set board.old cell y)) }
+{
+    if let Some(square) = record_of(board, cell) {
+        put(board, cell, by(square));
     }
 }
 
@@ -97,20 +73,14 @@ pub fn put<M: Copy>(board: &mut [Square<M>], cell: u32, square: Square<M>)
 pub fn mark<M: Copy>(board: &[Square<M>], cell: u32) -> Mark
     ensures { result ≡ mark_at board.now cell }
 {
-    match record_of(board, cell) {
-        Some(square) => square.mark,
-        None => Mark::Unseen,
-    }
+    record_of(board, cell).map_or(Mark::Unseen, |square| square.mark)
 }
 
 // The pointer of a cell; beyond the board there is none.
 pub fn pointer<M: Copy>(board: &[Square<M>], cell: u32) -> u8
     ensures { result ≡ pointer_at board.now cell }
 {
-    match record_of(board, cell) {
-        Some(square) => square.pointer,
-        None => 0,
-    }
+    record_of(board, cell).map_or(0, |square| square.pointer)
 }
 
 // The paint of a cell; what lies beyond the board is not painted.
@@ -124,44 +94,43 @@ pub fn paint<M: Copy>(board: &[Square<M>], cell: u32) -> u16
 pub fn stage_in<M: Copy>(board: &[Square<M>], cell: u32, search: u16) -> Stage<M>
     ensures { result ≡ stage_at search board.now cell }
 {
-    match record_of(board, cell) {
-        Some(square) if square.search == search => square.stage,
-        _ => Stage::Idle,
-    }
+    record_of(board, cell)
+        .filter(|square| square.search == search)
+        .map_or(Stage::Idle, |square| square.stage)
 }
 
 // Marks a cell of the board.
 pub fn set_mark<M: Copy>(board: &mut [Square<M>], cell: u32, mark: Mark)
     ensures { board.new ≡ changed (with_mark mark) board.old cell }
 {
-    if let Some(square) = record_of(board, cell) {
-        put(board, cell, square.marked(mark));
-    }
+    change(board, cell, |square| Square { mark, ..square });
 }
 
 // Sets the pointer of a cell of the board.
 pub fn set_pointer<M: Copy>(board: &mut [Square<M>], cell: u32, pointer: u8)
     ensures { board.new ≡ changed (with_pointer pointer) board.old cell }
 {
-    if let Some(square) = record_of(board, cell) {
-        put(board, cell, square.pointed(pointer));
-    }
+    change(board, cell, |square| Square { pointer, ..square });
 }
 
 // Paints a cell of the board with the number of a search.
-pub fn set_paint<M: Copy>(board: &mut [Square<M>], cell: u32, search: u16)
-    ensures { board.new ≡ changed (with_paint search) board.old cell }
+pub fn set_paint<M: Copy>(board: &mut [Square<M>], cell: u32, paint: u16)
+    ensures { board.new ≡ changed (with_paint paint) board.old cell }
 {
-    if let Some(square) = record_of(board, cell) {
-        put(board, cell, square.painted(search));
-    }
+    change(board, cell, |square| Square { paint, ..square });
 }
 
 // Sets the stage of a cell of the board in the search of a number.
 pub fn set_stage<M: Copy>(board: &mut [Square<M>], cell: u32, search: u16, stage: Stage<M>)
     ensures { board.new ≡ changed (with_stage search stage) board.old cell }
 {
-    if let Some(square) = record_of(board, cell) {
-        put(board, cell, square.staged(search, stage));
-    }
+    change(
+        board,
+        cell,
+        |square| Square {
+            search,
+            stage,
+            ..square
+        },
+    );
 }

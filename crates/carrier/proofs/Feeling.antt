@@ -1,14 +1,12 @@
 -- A byte that is built bit by bit.
-use Rattle.std.proofs.Common.{◌≡◌, ℕ, suc, ◌+◌, ◌*◌, ◌%◌, ◌^◌, ◌<◌, Bool, true, false, cond, sym, ap, ◌∙◌, subst, mod-eq_of_lt, add-one, arith, pow-add}
+use Rattle.std.proofs.Common.{◌≡◌, ℕ, ◌+◌, ◌*◌, ◌%◌, ◌^◌, ◌<◌, Bool, true, false, cond, sym, ap, ◌∙◌, mod-eq_of_lt, add-one, arith, pow-add}
 use lib.Bits.{bit_or, or_shifted_r}
 use lib.Pow.{pow-lt}
 use Rattle.model.specs.Lattice.{bits}
 
 -- the bits of the directions up to n + 1, by the one of direction n + 1
 one_more : (p : ℕ → Bool) (n : ℕ) (t : Bool) → p (n + 1) ≡ t → bits (n + 1) p ≡ cond t (bits n p + 2 ^ n) (bits n p)
-one_more p n t e =
-    let by-suc : p (suc n) ≡ t = subst (λ k. p k ≡ t) (add-one n) e in
-    subst (λ k. bits k p ≡ cond t (bits n p + 2 ^ n) (bits n p)) (sym (add-one n)) (ap (λ b. cond b (bits n p + 2 ^ n) (bits n p)) by-suc)
+one_more p n t e = rw (add-one n) (ap (λ b. cond b (bits n p + 2 ^ n) (bits n p)) (rw (add-one n) at e))
 
 -- twice as far with one bit more
 doubled : (n : ℕ) → 2 ^ (n + 1) ≡ 2 ^ n + 2 ^ n

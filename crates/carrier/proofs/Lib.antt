@@ -1,2 +1,1 @@
 pub mod Feeling
-pub mod Stepping

@@ -1,6 +1,7 @@
 -- The distances on a part of a lattice guide over it.
-use Rattle.std.specs.Prelude.{◌≡◌, ℕ, ◌<◌, Bool, true, false, cond, ◌&&◌, Some, None, ◌==◌, nat_lt, refl}
-use Rattle.std.proofs.Common.{sym, ◌∙◌, ap, subst, arith, eqb-true, ltb-true, eq-eqb, lt-ltb}
+use Rattle.std.specs.Prelude.{◌≡◌, ℕ, ◌<◌, Bool, true, false, cond, Some, ◌==◌, refl}
+use Rattle.std.proofs.Common.{sym, subst, arith, eqb-true}
+use Rattle.std.proofs.lemmas.Bool.Decides.{nat_tests}
 use Rattle.model.specs.Lattice.{Lattice, Lawful, Guide, Guiding}
 use Rattle.carrier.specs.Parts.{part_of, goal_alone, part_guide}
 use Rattle.carrier.specs.Parting.{whole}
@@ -14,16 +15,11 @@ part_goal size g n goal e = by (n == size)
 
 -- only the goal has a distance, and it is 0
 alone_at : (n goal a m : ℕ) → (goal_alone n goal).distance a ≡ Some m → (a ≡ goal) × (a < n)
-alone_at n goal a m e = by (a == goal) refl (nat_lt a n) refl e
-  where
-    by : (s : Bool) → (a == goal) ≡ s → (t : Bool) → nat_lt a n ≡ t → cond (s && t) (Some 0) None ≡ Some m → (a ≡ goal) × (a < n)
-    by true p true q k = (eqb-true a goal p, ltb-true a n q)
-    by true p false q k = absurd (let z : ◌≡◌ {A = ℕ} 0 1 = cc in omega arith)
-    by false p t q k = absurd (let z : ◌≡◌ {A = ℕ} 0 1 = cc in omega arith)
+alone_at n goal a m e = grind (arith, nat_tests)
 
 alone_guiding : (l : Lattice) (n goal : ℕ) → Guiding (part_of l n) (goal_alone n goal)
 alone_guiding l n goal = record {
-  at_goal = λ h. ap (λ s. cond (s && nat_lt goal n) (Some 0) None) (eq-eqb goal goal refl) ∙ ap (λ t. cond t (Some 0) None) (lt-ltb goal n h);
+  at_goal = λ h. grind (arith, nat_tests);
   nowhere_else = λ a e. (alone_at n goal a 0 e).0;
   of_cells = λ a m e. (alone_at n goal a m e).1;
   leads_on = λ a m e off. absurd (off (alone_at n goal a m e).0);

@@ -1,25 +1,18 @@
 -- The first cells of a lattice make a lattice, and all of them make the same one.
-use Rattle.std.specs.Prelude.{◌≡◌, ℕ, ◌<◌, ◌≤◌, Bool, true, false, cond, Some, None, Option, nat_lt, refl}
-use Rattle.std.proofs.Common.{sym, ◌∙◌, ap, subst, ltb-true, lt-ltb, arith}
+use Rattle.std.specs.Prelude.{◌≡◌, ℕ, ◌<◌, ◌≤◌, Some, None, Option, refl}
+use Rattle.std.proofs.Common.{◌∙◌, ap, lt-ltb, arith}
+use Rattle.std.proofs.lemmas.Bool.Decides.{nat_tests}
 use Rattle.std.proofs.Math.Path.{fun_ext}
 use Rattle.model.specs.Lattice.{Lattice, Lawful}
 use Rattle.carrier.specs.Parts.{below, part_of}
 
 -- what a part leads to, the lattice leads to, and both cells are of the part
 below_some : (n : ℕ) (o : Option ℕ) (b : ℕ) → below n o ≡ Some b → (o ≡ Some b) × (b < n)
-below_some n None b e = absurd (let z : ◌≡◌ {A = ℕ} 0 1 = cc in omega arith)
-below_some n (Some c) b e = go (nat_lt c n) refl
-  where
-    go : (t : Bool) → nat_lt c n ≡ t → (Some c ≡ Some b) × (b < n)
-    go true h = let q : Some c ≡ Some b = sym (ap (λ t. cond t (Some c) None) h) ∙ e in let k : c ≡ b = cc in (q, subst (λ x. x < n) k (ltb-true c n h))
-    go false h = absurd (let q : None ≡ Some b = sym (ap (λ t. cond t (Some c) None) h) ∙ e in let z : ◌≡◌ {A = ℕ} 0 1 = cc in omega arith)
+below_some n None b e = absurd cc
+below_some n (Some c) b e = grind (arith, nat_tests)
 
 pub part_some : (l : Lattice) (n a d b : ℕ) → (part_of l n).beside a d ≡ Some b → (l.beside a d ≡ Some b) × (a < n) × (b < n)
-part_some l n a d b e = go (nat_lt a n) refl
-  where
-    go : (t : Bool) → nat_lt a n ≡ t → (l.beside a d ≡ Some b) × (a < n) × (b < n)
-    go true h = let q = below_some n (l.beside a d) b (sym (ap (λ t. cond t (below n (l.beside a d)) None) h) ∙ e) in (q.0, ltb-true a n h, q.1)
-    go false h = absurd (let q : None ≡ Some b = sym (ap (λ t. cond t (below n (l.beside a d)) None) h) ∙ e in let z : ◌≡◌ {A = ℕ} 0 1 = cc in omega arith)
+part_some l n a d b e = grind (arith, nat_tests, below_some)
 
 -- and the other way round
 pub some_part : (l : Lattice) (n a d b : ℕ) → l.beside a d ≡ Some b → a < n → b < n → (part_of l n).beside a d ≡ Some b
@@ -42,11 +35,7 @@ whole_beside l w a d = go (l.beside a d) refl
   where
     go : (o : Option ℕ) → l.beside a d ≡ o → (part_of l l.size).beside a d ≡ o
     go (Some b) e = let r = w.within a d b e in some_part l l.size a d b e r.0 r.1
-    go None e = rw e (none (nat_lt a l.size))
-      where
-        none : (t : Bool) → cond t (below l.size None) None ≡ None
-        none true = refl
-        none false = refl
+    go None e = rw e (grind (arith, nat_tests))
 
 -- all the cells of a lattice are the lattice
 pub whole : (l : Lattice) → Lawful l → (n : ℕ) → n ≡ l.size → part_of l n ≡ l

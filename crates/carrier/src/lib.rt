@@ -10,6 +10,7 @@ pub mod part;
 pub mod pillar;
 pub mod pillars;
 pub mod rocks;
+pub mod rover;
 pub mod sheet;
 #[cfg(test)]
 mod tests;

@@ -1,6 +1,6 @@
 // The first cells of a lattice, as a lattice of their own.
 //
-// A carrier keeps its lattice as such a part, whose size is a plain number, so that the carrier's type can say that it stands on the floor.
+// No carrier keeps one. It stays since what is public here is promised.
 ghost use Rattle.std.specs.Prelude.{◌≡◌, ◌≤◌};
 ghost use Rattle.carrier.specs.Parts.{part_of, part_guide};
 ghost use Rattle.carrier.specs.Parting.{part_lawful};
@@ -24,7 +24,7 @@ impl<L: Lattice> Part<L> {
         Part { lattice, size }
     }
 
-    // Another of the same.
+    // Another of the same. It is no derived copy, since none is derived for a type parameter beside a ghost field.
     pub fn again(&self) -> Part<L>
     where
         L: Copy,

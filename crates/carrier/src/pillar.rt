@@ -16,6 +16,6 @@ impl Pillar {
     pub fn covers(&self, column: u32, row: u32) -> bool
         ensures { result ≡ covers self.now column row }
     {
-        self.left <= column && column <= self.right && self.top <= row && row <= self.bottom
+        (self.left..=self.right).contains(&column) && (self.top..=self.bottom).contains(&row)
     }
 }

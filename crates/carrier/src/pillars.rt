@@ -1,27 +1,27 @@
 // The pillar carrier: its rock is given by a list of pillars.
-ghost use Rattle.std.specs.Prelude.{◌≡◌, ◌<◌, ◌≤◌, false, IfOk, IfErr, None, vec_len};
-ghost use Rattle.carrier.specs.Parts.{part_of};
+ghost use Rattle.std.specs.Prelude.{◌≡◌, ◌≤◌, length, IfOk, IfErr, None, vec_len};
 ghost use Rattle.carrier.specs.Pillars.{any_pillar_covers, pillar_rock, pillars_refusal};
 ghost use Rattle.carrier.specs.Unfits.{Refuses};
-ghost use Rattle.std.proofs.Common.{arith, rules};
 ghost use Rattle.carrier.specs.Covering.{rock_within};
 
-use crate::Carrier;
-use crate::part::Part;
 use crate::pillar::Pillar;
-use crate::rocks::{Rocks, felt_at, free_beside};
+use crate::rocks::{Map, Rocks};
+use crate::rover::Rover;
 use crate::unfit::Unfit;
 use floor::Lattice;
-use std::alloc::Global;
+use std::alloc::{AllocError, Global};
 
 const MOST: usize = 64;
 
+pub type Pillars<L> = Rover<L, Plan>;
+
 // The pillars on a floor of some cells, in rows of some width.
 #[derive(Drop)]
-struct Plan {
+pub struct Plan {
     pillars: Vec<Pillar>,
     width: u32,
     size: u32,
+    ghost few: { vec_len pillars ≤ 64 },
 }
 
 impl Rocks for Plan {
@@ -30,6 +30,12 @@ impl Rocks for Plan {
     fn is_rock(&self, cell: u32) -> bool {
         is_covered(&self.pillars, self.width, self.size, cell)
     }
+}
+
+impl Map for Plan {
+    ghost cells = { λ p. p.size };
+
+    ghost within = { λ p a e. rock_within p.size p.width p.pillars.items a e };
 }
 
 // Whether a cell of the floor is covered. Rows of width 0 have no columns, so that nothing is.
@@ -43,6 +49,7 @@ fn is_covered(pillars: &[Pillar], width: u32, size: u32, cell: u32) -> bool
 }
 
 // Whether a pillar of the list covers the cell in a column and row.
+// A rule of the project asks for a loop over the list with an index.
 fn any_covers(pillars: &[Pillar], column: u32, row: u32) -> bool
     ensures { result ≡ any_pillar_covers pillars.now column row }
 {
@@ -54,17 +61,6 @@ fn any_covers(pillars: &[Pillar], column: u32, row: u32) -> bool
     false
 }
 
-#[derive(Drop)]
-pub struct Pillars<L> {
-    floor: Part<L>,
-    rocks: Plan,
-    at: u32,
-    ghost few: { vec_len rocks.pillars ≤ 64 },
-    ghost sized: { rocks.size ≡ floor.size },
-    ghost inside: { at < floor.size },
-    ghost open: { pillar_rock rocks.size rocks.width rocks.pillars.items at ≡ false },
-}
-
 impl<L: Lattice + Drop> Pillars<L> {
     // A carrier on its start, over the floor of a lattice whose cells lie in rows of one width, and whose rock is given by the pillars, of which it keeps a copy.
     pub fn new(
@@ -74,75 +70,24 @@ impl<L: Lattice + Drop> Pillars<L> {
         pillars: &[Pillar],
         start: u32,
     ) -> Result<Pillars<L>, Unfit>
-        ensures made { IfOk result (λ c. (pillars_refusal (L.Lattice.grid lattice).size width pillars.now start ≡ None) × (c.floor.lattice ≡ lattice) × (c.floor.size ≡ (L.Lattice.grid lattice).size) × (part_of (L.Lattice.grid c.floor.lattice) c.floor.size ≡ L.Lattice.grid lattice) × (c.rocks.width ≡ width) × (c.rocks.pillars.items ≡ pillars.now) × (c.at ≡ start)) }
+        ensures made { IfOk result (λ c. (pillars_refusal (L.Lattice.grid lattice).size width pillars.now start ≡ None) × (c.floor ≡ lattice) × (c.rocks.size ≡ (L.Lattice.grid lattice).size) × (c.rocks.width ≡ width) × (c.rocks.pillars.items ≡ pillars.now) × (c.at ≡ start)) }
         ensures refused { IfErr result (λ e. Refuses (pillars_refusal (L.Lattice.grid lattice).size width pillars.now start) e) }
     {
-        let floor = Part::whole(lattice);
-        let size = floor.size();
-        if let Some(unfit) = refusal(size, width, pillars, start) {
-            return Err(unfit);
+        if pillars.len() > MOST {
+            return Err(Unfit::TooManyPillars);
         }
-        let Ok(pillars) = Vec::from_slice(heap, pillars) else {
-            return Err(Unfit::NoMemory);
-        };
-        Ok(Pillars {
-            floor,
-            rocks: Plan {
+        let size = lattice.size();
+        let copy = || -> Result<Plan, AllocError>
+            requires { length pillars.now ≤ 64 }
+        {
+            let pillars = Vec::from_slice(heap, pillars)?;
+            Ok(Plan {
                 pillars,
                 width,
                 size,
-            },
-            at: start,
-        })
-    }
-}
-
-// Why pillars and a start do not fit a floor of this size, in rows of this width.
-fn refusal(size: u32, width: u32, pillars: &[Pillar], start: u32) -> Option<Unfit>
-    ensures { result ≡ pillars_refusal size width pillars.now start }
-{
-    if pillars.len() > MOST {
-        return Some(Unfit::TooManyPillars);
-    }
-    if start >= size {
-        return Some(Unfit::StartOffFloor);
-    }
-    if is_covered(pillars, width, size, start) {
-        return Some(Unfit::StartOnRock);
-    }
-    None
-}
-
-impl<L: Lattice + Copy> Carrier for Pillars<L> {
-    type Floor = Part<L>;
-
-    ghost floor = { λ c. c.floor };
-
-    ghost terrain = { λ c. record { rock = pillar_rock c.rocks.size c.rocks.width c.rocks.pillars.items; at = c.at } };
-
-    ghost cells = { λ c a e. omega (arith, rock_within c.rocks.size c.rocks.width c.rocks.pillars.items a e, c.sized) };
-
-    ghost stands = { first_of (Prim.search rules, Prim.grind (arith, Self.row.coded.inj)) };
-
-    fn lattice(&self) -> Part<L> {
-        self.floor.again()
-    }
-
-    fn cell(&self) -> u32 {
-        self.at
-    }
-
-    fn feel(&self) -> u8 {
-        felt_at(&self.floor, &self.rocks, self.at)
-    }
-
-    fn step(&mut self, direction: u8) -> bool {
-        match free_beside(&self.floor, &self.rocks, self.at, direction) {
-            Some(next) => {
-                self.at = next;
-                true
-            }
-            None => false,
-        }
+            })
+        };
+        let on_rock = is_covered(pillars, width, size, start);
+        Rover::on_start(lattice, start, on_rock, copy)
     }
 }

@@ -1,5 +1,5 @@
 // Sets of rock cells, and what a carrier does among them.
-ghost use Rattle.std.specs.Prelude.{◌≡◌, ℕ, Bool};
+ghost use Rattle.std.specs.Prelude.{◌≡◌, ℕ, Bool, ◌<◌, true};
 ghost use Rattle.model.specs.Lattice.{rock_bits, test_at};
 ghost use Rattle.carrier.specs.Steps.{is_free_beside};
 
@@ -11,6 +11,13 @@ pub trait Rocks {
 
     fn is_rock(&self, cell: u32) -> bool
         ensures { result ≡ rock self.now cell };
+}
+
+// Rock on a floor of some cells, none of it off the floor.
+pub trait Map: Rocks {
+    ghost cells: { Self → ℕ };
+
+    ghost within: { (m : Self) (a : ℕ) → Self.Rocks.rock m a ≡ true → a < cells m };
 }
 
 // The byte of the rock beside a cell: bit d - 1 is set for a rock neighbour in direction d.
@@ -30,10 +37,9 @@ pub fn felt_at<L: Lattice, R: Rocks>(lattice: &L, rocks: &R, cell: u32) -> u8
 fn rock_beside<L: Lattice, R: Rocks>(lattice: &L, rocks: &R, cell: u32, direction: u8) -> bool
     ensures { result ≡ test_at ((L.Lattice.grid lattice.now).beside cell direction) (R.Rocks.rock rocks.now) }
 {
-    match lattice.beside(cell, direction) {
-        Some(next) => rocks.is_rock(next),
-        None => false,
-    }
+    lattice
+        .beside(cell, direction)
+        .is_some_and(|next| rocks.is_rock(next))
 }
 
 // The passable neighbour in a direction.
@@ -45,8 +51,7 @@ pub fn free_beside<L: Lattice, R: Rocks>(
 ) -> Option<u32>
     ensures { result ≡ is_free_beside ((L.Lattice.grid lattice.now).beside cell direction) (R.Rocks.rock rocks.now) }
 {
-    match lattice.beside(cell, direction) {
-        Some(next) if !rocks.is_rock(next) => Some(next),
-        _ => None,
-    }
+    lattice
+        .beside(cell, direction)
+        .filter(|next| !rocks.is_rock(*next))
 }

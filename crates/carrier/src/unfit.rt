@@ -1,6 +1,9 @@
 // Why no carrier can be made.
 ghost use Rattle.std.specs.Prelude.{◌≡◌};
+ghost use Rattle.carrier.specs.declared.unfit.Unfit.TheVariants as the-unfit;
 ghost use Rattle.carrier.specs.Unfits.{unfit_number};
+
+use std::alloc::AllocError;
 
 #[derive(Clone, Copy, PartialEq, Eq, Debug)]
 pub enum Unfit {
@@ -19,7 +22,7 @@ pub enum Unfit {
 }
 
 impl Unfit {
-    // The number of the refusal; want of memory has none.
+    // The number of the refusal; want of memory has none. A match, as a case that holds a cell cannot be a number.
     pub fn number(&self) -> Option<u32>
         ensures { result ≡ unfit_number self.now }
     {
@@ -31,5 +34,13 @@ impl Unfit {
             Unfit::StartOnRock => Some(7),
             Unfit::NoMemory => None,
         }
+    }
+}
+
+impl From<AllocError> for Unfit {
+    ghost from_gives = { λ _ r. r ≡ the-unfit.NoMemory };
+
+    fn from(_: AllocError) -> Unfit {
+        Unfit::NoMemory
     }
 }

@@ -1,9 +1,10 @@
 -- A byte of directions: each of its bits, how many are set, and what two bytes share.
-use Rattle.std.proofs.Common.{◌≡◌, ℕ, zero, suc, ◌+◌, ◌-◌, ◌*◌, ◌/◌, ◌%◌, ◌^◌, ◌<◌, ◌≤◌, Bool, true, false, cond, ◌&&◌, eqb, sym, refl, ap, ◌∙◌, subst, ap₂, mul_assoc, one-add, arith, lit<}
+use Rattle.std.proofs.Common.{◌≡◌, ℕ, zero, suc, ◌+◌, ◌-◌, ◌*◌, ◌/◌, ◌%◌, ◌^◌, ◌<◌, ◌≤◌, Bool, true, false, cond, ◌&&◌, eqb, sym, refl, ap, ◌∙◌, subst, mul_assoc, arith, lit<}
 use native.Mathlib.Decide.{ℕ_discrete}
 use native.Mathlib.Nat.{mul-add-mod_self_right}
 use lib.Bits.{bit_and, and_block}
 use lib.Count.{ones, ones_cat, ones-ones}
+use Rattle.std.proofs.lemmas.Grind.{common_steps}
 use Rattle.std.proofs.lemmas.Nat.{pow-add, shr_high, field_of}
 use Rattle.model.specs.Lattice.{directions, bits}
 use Rattle.board.specs.Around.{direction_bit}
@@ -13,47 +14,30 @@ abbrev bit : Bool → ℕ
 bit t = cond t 1 0
 
 doubled : (n : ℕ) → 2 ^ suc n ≡ 2 ^ n + 2 ^ n
-doubled n = ap (λ m. 2 ^ m) (sym (one-add n)) ∙ pow-add 2 1 n ∙ (let k : 2 ^ 1 * 2 ^ n ≡ 2 ^ n + 2 ^ n = omega arith in k)
+doubled n = grind (arith, common_steps)
 
 -- the last bit, and those before it
 split : (n : ℕ) (p : ℕ → Bool) → bits (suc n) p ≡ bit (p (suc n)) * 2 ^ n + bits n p
-split n p = one (p (suc n))
-  where
-    one : (t : Bool) → cond t (bits n p + 2 ^ n) (bits n p) ≡ bit t * 2 ^ n + bits n p
-    one true = omega arith
-    one false = omega arith
+split n p = grind arith
 
 below : (n : ℕ) (p : ℕ → Bool) → bits n p < 2 ^ n
 below zero p = lit< tt
-below (suc n) p = one (p (suc n)) (below n p)
-  where
-    one : (t : Bool) → bits n p < 2 ^ n → cond t (bits n p + 2 ^ n) (bits n p) < 2 ^ suc n
-    one true h = omega (arith, doubled n)
-    one false h = omega (arith, doubled n)
+below (suc n) p = let lower = below n p in grind (arith, doubled n)
 
 -- two bytes share the directions that pass both tests
 pub bits_both : (n : ℕ) (p q : ℕ → Bool) → bit_and (bits n p) (bits n q) ≡ bits n (λ d. p d && q d)
 bits_both zero p q = refl
 bits_both (suc n) p q =
-    ap₂ bit_and (split n p) (split n q)
-    ∙ and_block n (bit (p (suc n))) (bit (q (suc n))) (bits n p) (bits n q) (below n p) (below n q)
-    ∙ one (p (suc n)) (q (suc n)) (bits_both n p q)
-  where
-    one : (t u : Bool) → bit_and (bits n p) (bits n q) ≡ bits n (λ d. p d && q d) →
-        bit_and (bit t) (bit u) * 2 ^ n + bit_and (bits n p) (bits n q) ≡ cond (t && u) (bits n (λ d. p d && q d) + 2 ^ n) (bits n (λ d. p d && q d))
-    one true true e = omega arith
-    one true false e = omega arith
-    one false true e = omega arith
-    one false false e = omega arith
+    let rest = bits_both n p q in
+    let block = and_block n (bit (p (suc n))) (bit (q (suc n))) (bits n p) (bits n q) (below n p) (below n q) in
+    rw (split n p, split n q) (grind arith)
 
 -- as many bits are set as directions pass
 pub bits_ones : (n : ℕ) (p : ℕ → Bool) → ones (bits n p) ≡ directions n p
 bits_ones zero p = ones-ones 0
-bits_ones (suc n) p = ap ones (split n p) ∙ ones_cat n (bit (p (suc n))) (bits n p) (below n p) ∙ one (p (suc n)) (bits_ones n p)
-  where
-    one : (t : Bool) → ones (bits n p) ≡ directions n p → ones (bit t) + ones (bits n p) ≡ cond t (suc (directions n p)) (directions n p)
-    one true e = omega (arith, ones-ones 1)
-    one false e = omega (arith, ones-ones 0)
+bits_ones (suc n) p =
+    let rest = bits_ones n p in
+    rw (split n p, ones_cat n (bit (p (suc n))) (bits n p) (below n p)) (grind (arith, ones-ones 1, ones-ones 0))
 
 -- a byte with bits above a place, as read at the place
 low : (c k i r : ℕ) → i < k → (c * 2 ^ k + r) / 2 ^ i % 2 ≡ r / 2 ^ i % 2

@@ -9,5 +9,4 @@ pub mod Narrowing
 pub mod Looking
 pub mod Thinking
 pub mod Going
-pub mod Standing
 pub mod Beginning

@@ -1,8 +1,9 @@
 -- The memory of a search on boards whose first records agree.
-use Rattle.std.proofs.Common.{◌≡◌, ℕ, ◌<◌, ◌≤◌, List, ◌++◌, length, take, drop, Some, None, Option, sym, refl, ap, ◌∙◌, subst, arith, length-append, take-append-drop, length-take}
+use Rattle.std.proofs.Common.{◌≡◌, ℕ, ◌<◌, ◌≤◌, List, ◌++◌, length, take, Some, None, Option, sym, refl, ap, ◌∙◌, subst, arith, length-append, length-take-le}
 use Rattle.std.specs.Option.{option_map}
 use Rattle.std.specs.List.{slice_get}
-use Rattle.std.proofs.iter.runs.Lists.{nth_left}
+use Rattle.std.proofs.lemmas.Grind.{common_steps}
+use Rattle.std.proofs.lemmas.Option.{gets}
 use Rattle.model.specs.Plain.{World, State}
 use Rattle.measure.specs.declared.queue.Entry.{Entry}
 use Rattle.board.specs.declared.square.Square.{Square}
@@ -13,16 +14,16 @@ use Rattle.reconnect.specs.Represents.{Memory, Represents}
 
 -- an answer that was made from another
 pub some_mapped : {X Y : Type 0} (f : X → Y) (o : Option X) (v : Y) → option_map f o ≡ Some v → (x : X) × (o ≡ Some x) × (f x ≡ v)
-some_mapped f None v e = absurd (let z : ◌≡◌ {A = ℕ} 0 1 = cc in omega arith)
-some_mapped f (Some x) v e = (x, refl, (let k : f x ≡ v = cc in k))
+some_mapped f None v e = cc
+some_mapped f (Some x) v e = (x, refl, cc)
 
 module _ {X : Type 0} (xs : List X) (n : ℕ) (long : n ≤ length xs) where
   -- the first n elements of a list
   pub first_length : length (take n xs) ≡ n
-  first_length = length-take n xs ∙ omega arith
+  first_length = length-take-le n xs long
 
   pub first_same : (a : ℕ) → a < n → slice_get (take n xs) a ≡ slice_get xs a
-  first_same a h = sym (nth_left (take n xs) (drop n xs) a (omega (arith, first_length))) ∙ ap (λ ys. slice_get ys a) (take-append-drop n xs)
+  first_same a h = grind (arith, common_steps, gets)
 
 -- others in front
 module _ {X : Type 0} (n : ℕ) (ys : List X) (long : length ys ≡ n) (rest : List X) where
@@ -30,7 +31,7 @@ module _ {X : Type 0} (n : ℕ) (ys : List X) (long : length ys ≡ n) (rest : L
   put_length = omega (arith, length-append ys rest)
 
   pub put_same : (a : ℕ) → a < n → slice_get (ys ++ rest) a ≡ slice_get ys a
-  put_same a h = nth_left ys rest a (omega arith)
+  put_same a h = grind (arith, common_steps, gets)
 
 module _ (w : World) {M : Type 0} (value : M → w.scale.Value) (kept : M → ℕ → Type 0) (search : Search) (queue : List (Entry M)) (s : State w) where
   abbrev memory : List (Square M) → Memory M

@@ -1,14 +1,13 @@
 -- What a look leaves of a whole board holds of its first records, one for each cell of the floor.
-use Rattle.std.proofs.Common.{◌≡◌, ℕ, zero, suc, ◌<◌, ◌≤◌, not, eqb, ltb, List, [], ◌∷◌, take, Some, None, Option, sym, refl, ap, ◌∙◌, subst, ⊎_elim, arith, ltb-true, ltb-false, length-take}
+use Rattle.std.proofs.Common.{◌≡◌, ℕ, zero, suc, ◌<◌, ◌≤◌, not, eqb, List, [], ◌∷◌, take, Some, None, Option, sym, refl, ap, ◌∙◌, subst, arith, length-take}
 use lib.Count.{ones}
 use Rattle.std.specs.Prelude.{bit_and}
-use Rattle.std.specs.Option.{option_map}
 use Rattle.std.specs.List.{slice_get}
-use Rattle.std.proofs.lemmas.Option.{slice_get_past}
+use Rattle.std.proofs.lemmas.Grind.{common_steps}
+use Rattle.std.proofs.lemmas.Option.{gets, slice_get_past}
 use Rattle.model.specs.Lattice.{Lattice, Lawful, test_at, bits}
 use Rattle.model.specs.Plain.{is_rock_mark}
 use Rattle.model.specs.Scale.{Scale}
-use Rattle.model.proofs.Basics.Tests.{decide}
 use Rattle.measure.specs.declared.queue.Entry.{Entry}
 use Rattle.board.specs.declared.square.Square.{Square}
 use Rattle.board.specs.declared.square.Stage.TheVariants as stage
@@ -19,10 +18,7 @@ use Rattle.drive.specs.Looking.{next_search, found_more, Begins, GoesOn, Looked}
 
 -- what is found among the first n elements, and behind them
 taken_get : {X : Type 0} (n : ℕ) (xs : List X) (a : ℕ) → a < n → slice_get (take n xs) a ≡ slice_get xs a
-taken_get zero xs a h = absurd (omega arith)
-taken_get (suc n) [] a h = refl
-taken_get (suc n) (x ∷ xs) zero h = refl
-taken_get (suc n) (x ∷ xs) (suc a) h = taken_get n xs a (omega arith)
+taken_get n xs a h = grind (arith, common_steps, gets)
 
 taken_past : {X : Type 0} (n : ℕ) (xs : List X) (a : ℕ) → n ≤ a → slice_get (take n xs) a ≡ None
 taken_past n xs a h = slice_get_past (take n xs) a (omega (arith, length-take n xs))
@@ -34,13 +30,7 @@ taken_changed f (suc n) (x ∷ xs) zero = refl
 taken_changed f (suc n) (x ∷ xs) (suc i) = ap (λ ys. x ∷ ys) (taken_changed f n xs i)
 
 taken_remade : {X : Type 0} (f : ℕ → X → X) (n : ℕ) (xs ys : List X) → Remade f xs ys → Remade f (take n xs) (take n ys)
-taken_remade f n xs ys r a = ⊎_elim (λ t. inside (ltb-true a n t)) (λ t. outside (ltb-false a n t)) (decide (ltb a n))
-  where
-    inside : a < n → slice_get (take n ys) a ≡ option_map (f a) (slice_get (take n xs) a)
-    inside h = taken_get n ys a h ∙ r a ∙ ap (option_map (f a)) (sym (taken_get n xs a h))
-
-    outside : n ≤ a → slice_get (take n ys) a ≡ option_map (f a) (slice_get (take n xs) a)
-    outside h = taken_past n ys a h ∙ ap (option_map (f a)) (sym (taken_past n xs a h))
+taken_remade f n xs ys r a = grind (arith, taken_get n ys a, taken_get n xs a, taken_past n ys a, taken_past n xs a, r a)
 
 module _ (l : Lattice) (lawful : Lawful l) {M : Type 0} where
   -- only neighbours are felt, and they are cells of the floor

@@ -1,21 +1,23 @@
 -- What a drive that owns its memory knows, and the calls that it refuses.
-use Rattle.std.proofs.Common.{◌≡◌, ℕ, suc, ◌+◌, ◌-◌, ◌*◌, ◌≤◌, false, cond, not, length, Some, sym, ap, ◌∙◌, subst, mul-le-mul, arith, le-ltb, eq-eqb}
+use Rattle.std.proofs.Common.{◌≡◌, ℕ, suc, ◌+◌, ◌-◌, ◌*◌, ◌≤◌, false, cond, not, length, Some, sym, refl, ap, ◌∙◌, subst, mul-le-mul, arith, le-ltb, eq-eqb}
 use mathlib.Core.Bool.{and-false}
+use Rattle.model.specs.declared.Phase.TheVariants as phase
+use Rattle.model.specs.Plain as plain
 use Rattle.model.specs.Plain.{World, State, Answer, refused, call}
-use Rattle.model.specs.Promise.{Fit, passable, acts}
-use Rattle.model.proofs.Reachable.{Sound, reached_sound, passable_few}
+use Rattle.model.specs.Promise.{Fit, Reached, passable, acts}
+use Rattle.model.proofs.Reachable.{Sound, reached_call, reached_sound, passable_few}
 use Rattle.drive.specs.declared.call.Call.{Call}
 use Rattle.drive.specs.declared.call.Lent.{Lent}
 use Rattle.drive.specs.declared.refusal.Refusal.{Refusal}
 use Rattle.drive.specs.Refusals.{refusal_number}
 use Rattle.drive.specs.Calls.{asked, phase_refusal, queue_is_short, elsewhere, call_refusal}
-use Rattle.drive.specs.Going.{counted}
+use Rattle.drive.specs.Beginning.{phase_at}
 use Rattle.drive.specs.Owning.{DriveMemory, Own, calls_after}
 use Rattle.drive.proofs.Refusing.{by_phase_alone, plain_refuses}
 
--- a count that fits is exact
-pub exactly : (n k : ℕ) → n + k ≤ 4294967295 → counted n k ≡ n + k
-exactly n k h = omega arith
+-- a drive that has come onto a cell does not search
+pub not_searching : (cell goal : ℕ) → phase_at cell goal ≡ phase.Searching → ⊥
+not_searching cell goal p = grind arith
 
 -- the counts of a drive are small: at most 4,096 rock cells are found, and at most 4,097 × 4,096 moves made, at a cost of up to 7
 pub record Few (w : World) (s : State w) : Type 0 where
@@ -31,6 +33,15 @@ few w fit s sound =
     let most : (s.found + 1) * (passable w - 1) ≤ 4097 * 4096 = mul-le-mul cells open-cells in
     let moves : s.moves ≤ 16781312 = omega (arith, sound.few_moves) in
     record { found = omega arith; searches = omega (arith, sound.few_searches); moves = moves; length = omega (arith, sound.short) }
+
+-- the plain drive's next state and answer, from what a call comes to
+module _ {w : World} (s : State w) (n : ℕ) (k : plain.Call) {r : State w × Answer} (same : call w s k ≡ r) where
+  pub reached_then : Reached w s n → Reached w r.0 (calls_after k r.1 n)
+  reached_then h = rw (← same) (reached_call w s n h k)
+
+  pub agrees_then : {G M : Type 0} {value : M → w.scale.Value} {kept : M → ℕ → Type 0} {after : DriveMemory G M} {a : Answer} → a ≡ r.1 → Own w value kept after r.0 (calls_after k r.1 n) →
+      (a ≡ (call w s k).1) × Own w value kept after (call w s k).0 (calls_after k (call w s k).1 n)
+  agrees_then answers own = rw same (answers, own)
 
 module _ (w : World) {G M : Type 0} (value : M → w.scale.Value) (kept : M → ℕ → Type 0) (m : DriveMemory G M) (s : State w) (n : ℕ) (own : Own w value kept m s n) where
   pub own_sound : Sound w s
@@ -52,7 +63,5 @@ module _ (w : World) {G M : Type 0} (value : M → w.scale.Value) (kept : M → 
   pub refuses : (k : Call) (e : Refusal) → phase_refusal s.phase k ≡ Some e →
       (refused (refusal_number e) ≡ (call w s (asked k)).1) × Own w value kept m (call w s (asked k)).0 (calls_after (asked k) (call w s (asked k)).1 n)
   refuses k e due =
-      let same = plain_refuses w s k e own_sound.not_void due in
-      let After : State w × Answer → Type 0 = λ r. Own w value kept m r.0 (calls_after (asked k) r.1 n) in
       let count : calls_after (asked k) (refused (refusal_number e)) n ≡ n = ap (λ t. cond t (suc n) n) (and-false (acts (asked k))) in
-      (sym (ap (λ r. r.1) same), subst After (sym same) (subst (Own w value kept m s) (sym count) own))
+      agrees_then s n (asked k) (plain_refuses w s k e own_sound.not_void due) refl (subst (Own w value kept m s) (sym count) own)

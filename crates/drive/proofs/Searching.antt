@@ -151,16 +151,10 @@ module _ (w : World) (fit : Fit w) {M : Type 0} (value : M → w.scale.Value) (k
         entry,
         added_has_entry w.scale value before.queue 0 entry after.queue 1 first.1,
         sym e,
-        b.nought ∙ same_value (sym home ∙ ap (λ x. (then.squares x).stage) (sym e) ∙ q),
+        (let p : plain.waiting w.scale.none here ≡ plain.waiting v c = sym home ∙ ap (λ x. (then.squares x).stage) (sym e) ∙ q in cc b.nought),
       )
-      | no e ↦ absurd (never (sym (ap (λ t. cond t (plain.waiting w.scale.none here) plain.idle) (ne_eqb a here e)) ∙ q))
+      | no e ↦ let p : plain.idle ≡ plain.waiting v c = sym (ap (λ t. cond t (plain.waiting w.scale.none here) plain.idle) (ne_eqb a here e)) ∙ q in cc
     ]
-      where
-        same_value : {u : w.scale.Value} {d : ℕ} → plain.waiting u d ≡ plain.waiting v c → u ≡ v
-        same_value {u} {d} p = cc
-
-        never : plain.idle ≡ plain.waiting v c → ⊥
-        never p = let z : ◌≡◌ {A = ℕ} 0 1 = cc in omega arith
 
     queued : Queued w.scale value size (λ a. (then.squares a).stage) after.queue 1
     queued = record {
@@ -177,11 +171,10 @@ module _ (w : World) (fit : Fit w) {M : Type 0} (value : M → w.scale.Value) (k
       number = next ∙ ap suc number;
       walk = ap walk_shown b.rests;
       shown = shown;
-      numbered = λ a x h e. subst (λ y. y.search ≤ new) (same_record (sym (begun a h).1 ∙ e)) (begun a h).2.carries;
+      numbered = λ a x h e.
+          let s : Some (begun a h).0 ≡ Some x = sym (begun a h).1 ∙ e in
+          subst (λ y. y.search ≤ new) (let same : (begun a h).0 ≡ x = cc in same) (begun a h).2.carries;
       room = room;
       frontier = λ p. record { shown = shown; exact = exact; queued = subst (Queued w.scale value size (λ a. (then.squares a).stage) after.queue) (sym one) queued };
       few = λ p. omega (arith, one);
     }
-      where
-        same_record : {x y : Square M} → Some x ≡ Some y → x ≡ y
-        same_record {x} {y} p = cc

@@ -1,7 +1,6 @@
 -- The records after a look are those of the plain drive.
-use Rattle.std.proofs.Common.{◌≡◌, ℕ, Bool, true, false, cond, not, ◌&&◌, eqb, List, Some, None, Option, sym, refl, ap, ◌∙◌}
+use Rattle.std.proofs.Common.{◌≡◌, ℕ, Bool, true, false, cond, not, ◌&&◌, eqb, List, Some, None, Option, sym, refl, ap, ◌∙◌, arith}
 use mathlib.Core.Path.{fun_ext}
-use mathlib.Core.Bool.{and-true}
 use lib.Bits.{bit_and}
 use lib.Count.{ones}
 use borrow.Author.Tests.{eqb-false}
@@ -17,8 +16,7 @@ use Rattle.drive.proofs.Felt.{bits_both, bits_ones, bit_of}
 
 -- a test of two parts at an answer
 test_both : (o : Option ℕ) (p q r : ℕ → Bool) → ((b : ℕ) → q b ≡ r b) → (test_at o p && test_at o q) ≡ test_at o (λ b. p b && r b)
-test_both None p q r h = refl
-test_both (Some b) p q r h = ap (λ t. p b && t) (h b)
+test_both o p q r h = grind (arith, h)
 
 -- the bit of a neighbour is set exactly if the neighbour passes
 neighbour_bit : (w : World) (lawful : Lawful w.lattice) (here : ℕ) (p : ℕ → Bool) (a : ℕ) → Beside w here a → direction_bit (rock_bits w.lattice p here) (towards w here a) ≡ p a
@@ -60,22 +58,15 @@ module _ (w : World) (lawful : Lawful w.lattice) (s : State w) {M : Type 0} (boa
   mark_by : (a : ℕ) (m : Mark) (z : Bool) → eqb (towards w here a) 0 ≡ z →
       cond z m (felt_mark_of (direction_bit felt (towards w here a))) ≡ cond (not z) (cond (w.rock a) mark.Rock mark.Passable) m
   mark_by a m true e = refl
-  mark_by a m false e = ap felt_mark_of (ap (λ byte. direction_bit byte (towards w here a)) feels ∙ neighbour_bit w lawful here w.rock a (eqb-false _ _ e))
+  mark_by a m false e = rw feels (ap felt_mark_of (neighbour_bit w lawful here w.rock a (eqb-false _ _ e)))
 
   -- the cells at which pointers are cut are those that are marked as rock now, since no pointer led to rock before
   rock_by : (b : ℕ) → is_rock_mark (q b).mark ≡ false → (z : Bool) → eqb (towards w here b) 0 ≡ z →
       (not z && direction_bit new (towards w here b)) ≡ is_rock_mark (cond (not z) (cond (w.rock b) mark.Rock mark.Passable) (q b).mark)
   rock_by b off true e = sym off
   rock_by b off false e =
-      ap (λ byte. direction_bit byte (towards w here b)) new_byte
-      ∙ neighbour_bit w lawful here fresh_rock b (eqb-false _ _ e)
-      ∙ ap (λ t. w.rock b && not t) off
-      ∙ and-true (w.rock b)
-      ∙ sym (rock_marked (w.rock b))
-    where
-      rock_marked : (r : Bool) → is_rock_mark (cond r mark.Rock mark.Passable) ≡ r
-      rock_marked true = refl
-      rock_marked false = refl
+      let lit : direction_bit new (towards w here b) ≡ fresh_rock b = rw new_byte (neighbour_bit w lawful here fresh_rock b (eqb-false _ _ e)) in
+      grind arith
 
   module _ (off_rock : (a b : ℕ) → next w q a ≡ Some b → is_rock_mark (q b).mark ≡ false) where
     cut_same : (a : ℕ) → test_at (next w q a) (struck w.lattice here new 8) ≡ test_at (next w q a) (λ b. is_rock_mark (seen_mark w q here b))
@@ -102,14 +93,10 @@ module _ (w : World) (lawful : Lawful w.lattice) (s : State w) {M : Type 0} (boa
     parts x m p = record { mark = m; pointer = p; paint = x.paint; search = x.search; stage = x.stage }
 
     remade_parts : (x : Square M) (m : Mark) (z c : Bool) → remade x m z c ≡ parts x (cond z x.mark m) (cond c 0 x.pointer)
-    remade_parts x m true true = refl
-    remade_parts x m true false = refl
-    remade_parts x m false true = refl
-    remade_parts x m false false = refl
+    remade_parts x m z c = grind arith
 
     same_pointer : (x : Square M) (m : Mark) (z : Bool) → (cond z x (with_mark m x)).pointer ≡ x.pointer
-    same_pointer x m true = refl
-    same_pointer x m false = refl
+    same_pointer x m z = grind arith
 
     pub seen_as : (a : ℕ) (x : Square M) → x.mark ≡ (q a).mark → x.pointer ≡ (q a).pointer → Seen a x (seen_square w.lattice here felt new a x)
     unfolding towards

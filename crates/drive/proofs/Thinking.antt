@@ -1,5 +1,5 @@
 -- A think does what the plain drive's does.
-use Rattle.std.proofs.Common.{◌≡◌, ℕ, zero, suc, ◌+◌, ◌-◌, ◌<◌, ◌≤◌, List, ◌++◌, length, take, drop, Some, None, sym, refl, ap, ◌∙◌, subst, add-one, arith}
+use Rattle.std.proofs.Common.{◌≡◌, ℕ, zero, suc, ◌+◌, ◌-◌, ◌<◌, ◌≤◌, List, ◌++◌, length, take, drop, Some, None, Option, sym, refl, ap, ◌∙◌, subst, add-one, arith}
 use Rattle.model.specs.declared.Phase.{Phase}
 use Rattle.model.specs.declared.Phase.TheVariants as phase
 use Rattle.model.specs.Lattice.{Lattice, Guide}
@@ -13,15 +13,13 @@ use Rattle.model.proofs.Run.ByThink.{thought_on, thought_joins, thought_closes}
 use Rattle.model.proofs.Reachable.{reached_call}
 use Rattle.measure.specs.declared.queue.Entry.{Entry}
 use Rattle.board.specs.declared.square.Square.{Square}
-use Rattle.reconnect.specs.declared.state.Course.{Course as Course'}
-use Rattle.reconnect.specs.declared.state.Course.TheVariants as course
+use Rattle.reconnect.specs.declared.state.Outcome.{Outcome}
+use Rattle.reconnect.specs.declared.state.Outcome.TheVariants.{Joined, Shut}
 use Rattle.reconnect.specs.Represents.{Memory, Represents}
 use Rattle.reconnect.specs.Steps.{course_shown, StepsAs}
 use Rattle.drive.specs.declared.call.Call.TheVariants.{Think}
 use Rattle.drive.specs.declared.drive.Drive.{Drive}
 use Rattle.drive.specs.declared.refusal.Refusal.{Refusal}
-use Rattle.drive.specs.declared.think.Thought.{Thought}
-use Rattle.drive.specs.declared.think.Thought.TheVariants as came
 use Rattle.drive.specs.Refusals.{refusal_number}
 use Rattle.drive.specs.Calls.{phase_refusal}
 use Rattle.drive.specs.Answers.{thought_answer}
@@ -104,14 +102,13 @@ module _ (w : World) where
     where
       by : (c : Course) → (think_step w s).1 ≡ c → (thought w i (suc k) (think_step w s).0 ≡ (t, spent d) → thought w b (suc k) (think_step w s).0 ≡ thought w m d t) → thought w (suc b) k s ≡ thought w m d t
       by going c rest = thought_on w b k s c ∙ rest (sym (thought_on w i k s c) ∙ e)
-      by (join x y) c rest = absurd (never (ap (λ r. r.1) (sym (thought_joins w i k s x y c) ∙ e)))
-        where
-          never : joined (suc k) x y ≡ spent d → ⊥
-          never z = let o : ◌≡◌ {A = ℕ} 0 1 = cc in omega arith
-      by close c rest = absurd (never (ap (λ r. r.1) (sym (thought_closes w i k s c) ∙ e)))
-        where
-          never : shut (suc k) ≡ spent d → ⊥
-          never z = let o : ◌≡◌ {A = ℕ} 0 1 = cc in omega arith
+      by (join x y) c rest = let z : joined (suc k) x y ≡ spent d = ap (λ r. r.1) (sym (thought_joins w i k s x y c) ∙ e) in cc
+      by close c rest = let z : shut (suc k) ≡ spent d = ap (λ r. r.1) (sym (thought_closes w i k s c) ∙ e) in cc
+
+  -- a step with which the search ends is the last
+  pub thought_ends : (m done : ℕ) (t : State w) (o : Outcome) → (think_step w t).1 ≡ course_shown (Some o) → thought w (suc m) done t ≡ ((think_step w t).0, thought_answer (suc done) (Some o))
+  thought_ends m done t (Joined x y) e = thought_joins w m done t x y e
+  thought_ends m done t Shut e = thought_closes w m done t e
 
   pub think_call : (s : State w) → s.phase ≡ phase.Searching → (n : ℕ) → call w s (think (suc n)) ≡ thought w (suc n) 0 s
   unfolding call answer
@@ -138,7 +135,7 @@ module _ (l : Lattice) (aim : Guide) (scale : Scale) {M : Type 0} (value : M →
   unfolding thought
   underway_none before terrain s n fit h p c r = (s, refl, r)
 
-  pub underway_spent : (budget : ℕ) (before now : Memory M) → Underway budget before now → ThinksAs l aim scale value kept home budget budget came.Spent before now
+  pub underway_spent : (budget : ℕ) (before now : Memory M) → Underway budget before now → ThinksAs l aim scale value kept home budget budget None before now
   underway_spent budget before now u terrain s n fit h p c r =
       let t = u terrain s n fit h p c r in
       let w = over l terrain aim scale in
@@ -159,7 +156,7 @@ module _ (l : Lattice) (aim : Guide) (scale : Scale) {M : Type 0} (value : M →
     left = subst (Left w s) so_far (thought_left w done 0 s p)
 
     -- what the next step comes to
-    stepped : (x : Course') → StepsAs scale value kept x now next l home aim → (course_shown x ≡ (think_step w t).1) × Represents w value kept next (think_step w t).0
+    stepped : (x : Option Outcome) → StepsAs scale value kept x now next l home aim → (course_shown x ≡ (think_step w t).1) × Represents w value kept next (think_step w t).0
     stepped x steps =
         let reached = spent_reached w s n h p done t so_far in
         steps terrain t reached.0 fit reached.1 left.phase (left.same.cell ∙ c) (u terrain s n fit h p c r).2
@@ -168,44 +165,33 @@ module _ (l : Lattice) (aim : Guide) (scale : Scale) {M : Type 0} (value : M →
     rest : (m b : ℕ) → done + suc m ≡ b → thought w b 0 s ≡ thought w (suc m) done t
     rest m b e = thought_then w done (suc m) 0 done b s t (omega arith) e so_far
 
-  pub underway_more : (done : ℕ) (before now next : Memory M) → Underway done before now → StepsAs scale value kept course.Going now next l home aim → Underway (done + 1) before next
+  pub underway_more : (done : ℕ) (before now next : Memory M) → Underway done before now → StepsAs scale value kept None now next l home aim → Underway (done + 1) before next
   unfolding thought
   underway_more done before now next u steps terrain s n fit h p c r =
       let w = over l terrain aim scale in
       let t = (u terrain s n fit h p c r).0 in
-      let one = stepped done before now next u terrain s n fit h p c r course.Going steps in (
+      let one = stepped done before now next u terrain s n fit h p c r None steps in (
         (think_step w t).0,
         rest done before now next u terrain s n fit h p c r 0 (done + 1) refl ∙ thought_on w 0 done t (sym one.0) ∙ ap (λ k. ((think_step w t).0, spent k)) (sym (add-one done)),
         one.1,
       )
 
-  pub underway_joins : (done budget x y : ℕ) (before now next : Memory M) → done < budget → Underway done before now → StepsAs scale value kept (course.Joined x y) now next l home aim →
-      ThinksAs l aim scale value kept home budget (done + 1) (came.Joined x y) before next
-  underway_joins done budget x y before now next below u steps terrain s n fit h p c r =
+  pub underway_ends : (done budget : ℕ) (o : Outcome) (before now next : Memory M) → done < budget → Underway done before now → StepsAs scale value kept (Some o) now next l home aim →
+      ThinksAs l aim scale value kept home budget (done + 1) (Some o) before next
+  underway_ends done budget o before now next below u steps terrain s n fit h p c r =
       let w = over l terrain aim scale in
       let t = (u terrain s n fit h p c r).0 in
       let m : ℕ = budget - (done + 1) in
-      let one = stepped done before now next u terrain s n fit h p c r (course.Joined x y) steps in
-      let all : thought w budget 0 s ≡ ((think_step w t).0, joined (done + 1) x y) =
-      rest done before now next u terrain s n fit h p c r m budget (omega arith) ∙ thought_joins w m done t x y (sym one.0) ∙ ap (λ k. ((think_step w t).0, joined k x y)) (sym (add-one done)) in
-      (sym (ap (λ z. z.1) all), subst (λ z. Represents w value kept next z.0) (sym all) one.1)
-
-  pub underway_closes : (done budget : ℕ) (before now next : Memory M) → done < budget → Underway done before now → StepsAs scale value kept course.Shut now next l home aim →
-      ThinksAs l aim scale value kept home budget (done + 1) came.Shut before next
-  underway_closes done budget before now next below u steps terrain s n fit h p c r =
-      let w = over l terrain aim scale in
-      let t = (u terrain s n fit h p c r).0 in
-      let m : ℕ = budget - (done + 1) in
-      let one = stepped done before now next u terrain s n fit h p c r course.Shut steps in
-      let all : thought w budget 0 s ≡ ((think_step w t).0, shut (done + 1)) =
-      rest done before now next u terrain s n fit h p c r m budget (omega arith) ∙ thought_closes w m done t (sym one.0) ∙ ap (λ k. ((think_step w t).0, shut k)) (sym (add-one done)) in
+      let one = stepped done before now next u terrain s n fit h p c r (Some o) steps in
+      let all : thought w budget 0 s ≡ ((think_step w t).0, thought_answer (done + 1) (Some o)) =
+      rest done before now next u terrain s n fit h p c r m budget (omega arith) ∙ thought_ends w m done t o (sym one.0) ∙ ap (λ k. ((think_step w t).0, thought_answer k (Some o))) (sym (add-one done)) in
       (sym (ap (λ z. z.1) all), subst (λ z. Represents w value kept next z.0) (sym all) one.1)
 
 -- the phase by the answer, and by what the steps came to
-phase_same : (w : World) (done : ℕ) (t : Thought) → answer_phase w (thought_answer done t) ≡ phase_after phase.Searching t
-phase_same w done came.Spent = refl
-phase_same w done (came.Joined x y) = refl
-phase_same w done came.Shut = refl
+phase_same : (w : World) (done : ℕ) (t : Option Outcome) → answer_phase w (thought_answer done t) ≡ phase_after phase.Searching t
+phase_same w done None = refl
+phase_same w done (Some (Joined x y)) = refl
+phase_same w done (Some Shut) = refl
 
 -- the call of a think, as its contract has it
 module _ (l : Lattice) (aim : Guide) (scale : Scale) {G M : Type 0} (value : M → scale.Value) (kept : M → ℕ → Type 0) (d : Drive G) (board : List (Square M)) (queue : List (Entry M)) (budget : ℕ) (terrain : Ground) where
@@ -220,7 +206,7 @@ module _ (l : Lattice) (aim : Guide) (scale : Scale) {G M : Type 0} (value : M �
   pub think_refused : (e : Refusal) → think_refusal d board queue budget l ≡ Some e → Agrees l aim scale value kept (think budget) (refused (refusal_number e)) before before
   think_refused e due start s n own = refuses (over l start aim scale) value kept before s n own (Think budget) e (sym (by_phase start s n own) ∙ due)
 
-  module _ (k done : ℕ) (t : Thought) (d' : Drive G) (board' : List (Square M)) (queue' : List (Entry M)) (cells : k ≡ l.size) (ok : think_refusal d board queue budget l ≡ None)
+  module _ (k done : ℕ) (t : Option Outcome) (d' : Drive G) (board' : List (Square M)) (queue' : List (Entry M)) (cells : k ≡ l.size) (ok : think_refusal d board queue budget l ≡ None)
       (left : d' ≡ turned d (phase_after d.phase t) d'.search)
       (thinks : ThinksAs l aim scale value kept d.cell budget done t (record { search = d.search; board = take k board; queue = queue }) (record { search = d'.search; board = board'; queue = queue' }))
       (records : length board' ≡ k) where

@@ -1,5 +1,5 @@
 -- What vet answers and begin leaves.
-use Rattle.std.specs.Prelude.{◌≡◌, ℕ, ◌+◌, ◌*◌, ◌<◌, cond, List, drop, Some, None, Ok, Err, Option, Result, ◌==◌, nat_le, nat_lt}
+use Rattle.std.specs.Prelude.{◌≡◌, ℕ, ◌<◌, cond, List, drop, Some, None, Ok, Err, Option, Result, ◌==◌, nat_le}
 use Rattle.std.specs.Option.{option_map}
 use Rattle.std.specs.List.{slice_get}
 use Rattle.model.specs.declared.Mark.TheVariants as mark
@@ -13,8 +13,9 @@ use Rattle.board.specs.Board.{shown_as}
 use Rattle.reconnect.specs.Beginning.{unbegun}
 use Rattle.drive.specs.declared.drive.Drive.{Drive}
 use Rattle.drive.specs.declared.refusal.Refusal.{Refusal}
-use Rattle.drive.specs.declared.refusal.Refusal.TheVariants.{GoalOffFloor, ShortBoard, ShortQueue}
+use Rattle.drive.specs.declared.refusal.Refusal.TheVariants.{GoalOffFloor}
 use Rattle.drive.specs.Refusals.{refusal_number}
+use Rattle.drive.specs.Calls.{lent_refusal}
 
 -- vet's answer as a number: 0 where it accepts
 abbrev pub vetted_number : Result (Unit {0}) Refusal → ℕ
@@ -24,7 +25,11 @@ vetted_number (Err e) = refusal_number e
 -- why a drive is void: the goal, then the board's records, then the queue's entries
 abbrev pub vet_refusal : (size goal records entries : ℕ) → Option Refusal
 vet_refusal size goal records entries =
-    cond (nat_le size goal) (Some GoalOffFloor) (cond (nat_lt records size) (Some ShortBoard) (cond (nat_lt entries (8 * size + 1)) (Some ShortQueue) None))
+    cond (nat_le size goal) (Some GoalOffFloor) (lent_refusal (record { records = records; entries = Some entries; at = None }) size)
+
+-- the phase of a drive that has come onto a cell
+abbrev pub phase_at : (cell goal : ℕ) → Phase
+phase_at cell goal = cond (cell == goal) phase.Arrived phase.Unseen
 
 -- a drive that has counted nothing yet
 abbrev pub uncounted : {G : Type 0} → G → Option Refusal → Phase → ℕ → Drive G
@@ -41,7 +46,7 @@ uncounted guide void p cell = record {
 
 -- a drive that begins at a cell, or is void
 abbrev pub begun : {G : Type 0} → G → Option Refusal → (start goal : ℕ) → Drive G
-begun guide None start goal = uncounted guide None (cond (start == goal) phase.Arrived phase.Unseen) start
+begun guide None start goal = uncounted guide None (phase_at start goal) start
 begun guide (Some refusal) start goal = uncounted guide (Some refusal) phase.Void 0
 
 -- the record of a cell where a drive begins: the start is marked passable, and the pointer is the lead

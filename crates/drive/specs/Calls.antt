@@ -1,5 +1,6 @@
 -- The calls of a drive as the plain drive has them, and when a call is refused, and with what.
 use Rattle.std.specs.Prelude.{ℕ, ◌+◌, ◌*◌, Bool, false, cond, not, Some, None, Option, ◌==◌, nat_lt}
+use Rattle.std.specs.Option.{option_or}
 use Rattle.model.specs.declared.Phase.{Phase}
 use Rattle.model.specs.declared.Phase.TheVariants as phase
 use Rattle.model.specs.Plain as plain
@@ -18,11 +19,6 @@ asked (Think steps) = plain.think steps
 asked Go = plain.go
 asked Tell = plain.tell
 
--- the first of two refusals
-abbrev pub or_else : Option Refusal → Option Refusal → Option Refusal
-or_else None later = later
-or_else (Some e) later = Some e
-
 -- a refusal if a test passes
 abbrev pub refuse_if : Bool → Refusal → Option Refusal
 refuse_if t e = cond t (Some e) None
@@ -34,7 +30,7 @@ unless_in due p = refuse_if (not (phase_number p == phase_number due)) WrongPhas
 -- look, think and go have a phase each, and a think has one or more steps
 abbrev pub phase_refusal : Phase → Call → Option Refusal
 phase_refusal p Look = unless_in phase.Unseen p
-phase_refusal p (Think steps) = or_else (unless_in phase.Searching p) (refuse_if (steps == 0) NoSteps)
+phase_refusal p (Think steps) = option_or (unless_in phase.Searching p) (refuse_if (steps == 0) NoSteps)
 phase_refusal p Go = unless_in phase.Ready p
 phase_refusal p Tell = None
 
@@ -42,6 +38,10 @@ phase_refusal p Tell = None
 abbrev pub queue_is_short : Option ℕ → ℕ → Bool
 queue_is_short None size = false
 queue_is_short (Some entries) size = nat_lt entries (8 * size + 1)
+
+-- why what is lent is too small: the board has too few records, or else the queue too few entries
+abbrev pub lent_refusal : Lent → ℕ → Option Refusal
+lent_refusal lent size = cond (nat_lt lent.records size) (Some ShortBoard) (refuse_if (queue_is_short lent.entries size) ShortQueue)
 
 -- whether a carrier stands on another cell; a call that is lent none needs none
 abbrev pub elsewhere : Option ℕ → ℕ → Bool
@@ -51,8 +51,7 @@ elsewhere (Some at) cell = not (at == cell)
 -- the first refusal of a call: that of a void drive, the board's, the queue's, the phase's and the steps', the carrier's cell
 abbrev pub call_refusal : {G : Type 0} → Drive G → Call → Lent → ℕ → Option Refusal
 call_refusal d k lent size =
-    or_else d.void
-    (or_else (refuse_if (nat_lt lent.records size) ShortBoard)
-    (or_else (refuse_if (queue_is_short lent.entries size) ShortQueue)
-    (or_else (phase_refusal d.phase k)
-    (refuse_if (elsewhere lent.at d.cell) WrongCell))))
+    option_or d.void
+    (option_or (lent_refusal lent size)
+    (option_or (phase_refusal d.phase k)
+    (refuse_if (elsewhere lent.at d.cell) WrongCell)))

@@ -1,5 +1,5 @@
 -- When a look is refused, and what it leaves.
-use Rattle.std.specs.Prelude.{◌≡◌, ℕ, true, false, List, length, Some, Option, ◌==◌, count_ones, nat_eq}
+use Rattle.std.specs.Prelude.{◌≡◌, ℕ, true, false, List, length, Some, None, Option, ◌==◌, count_ones, nat_eq}
 use Rattle.model.specs.declared.Phase.{Phase}
 use Rattle.model.specs.declared.Phase.TheVariants as phase
 use Rattle.model.specs.Lattice.{Lattice}
@@ -12,7 +12,6 @@ use Rattle.board.specs.declared.square.Stage.TheVariants as stage
 use Rattle.board.specs.Board.{changed, pointer_at, with_stage}
 use Rattle.board.specs.Around.{Remade, new_bits_of, seen_square}
 use Rattle.reconnect.specs.declared.state.Search.{Search}
-use Rattle.reconnect.specs.declared.state.Walk.TheVariants as walk
 use Rattle.reconnect.specs.Beginning.{next_number}
 use Rattle.drive.specs.declared.call.Call.TheVariants.{Look}
 use Rattle.drive.specs.declared.drive.Drive.{Drive}
@@ -57,7 +56,7 @@ abbrev pub made_ready : {G : Type 0} → Drive G → Drive G
 made_ready d = turned d phase.Ready d.search
 
 abbrev pub made_searching : {G : Type 0} → Drive G → Drive G
-made_searching d = turned d phase.Searching (record { number = next_search d.search.number; waiting = 1; walk = walk.Resting })
+made_searching d = turned d phase.Searching (record { number = next_search d.search.number; waiting = 1; walk = None })
 
 -- a search begins at a cell: it alone waits, at an exact zero, with itself as its back, and is the queue's only entry
 pub record Begins {M : Type 0} (scale : Scale) (value : M → scale.Value) (kept : M → ℕ → Type 0) (cell number : ℕ) (board board' : List (Square M)) (queue queue' : List (Entry M)) : Type 0 where

@@ -10,12 +10,12 @@ use Rattle.model.specs.Promise.{Fit, Reached}
 use Rattle.model.specs.Worlds.{over}
 use Rattle.measure.specs.declared.queue.Entry.{Entry}
 use Rattle.board.specs.declared.square.Square.{Square}
+use Rattle.reconnect.specs.declared.state.Outcome.{Outcome}
+use Rattle.reconnect.specs.declared.state.Outcome.TheVariants.{Joined, Shut}
 use Rattle.reconnect.specs.Represents.{Memory, Represents}
 use Rattle.drive.specs.declared.call.Call.TheVariants.{Think}
 use Rattle.drive.specs.declared.drive.Drive.{Drive}
 use Rattle.drive.specs.declared.refusal.Refusal.{Refusal}
-use Rattle.drive.specs.declared.think.Thought.{Thought}
-use Rattle.drive.specs.declared.think.Thought.TheVariants.{Spent, Joined, Shut}
 use Rattle.drive.specs.Answers.{thought_answer}
 use Rattle.drive.specs.Calls.{call_refusal}
 
@@ -24,14 +24,14 @@ abbrev pub think_refusal : {G M : Type 0} → Drive G → List (Square M) → Li
 think_refusal d board queue budget l = call_refusal d (Think budget) (record { records = length board; entries = Some (length queue); at = None }) l.size
 
 -- the phase after a think
-abbrev pub phase_after : Phase → Thought → Phase
-phase_after p Spent = p
-phase_after p (Joined x y) = phase.Ready
-phase_after p Shut = phase.Shut
+abbrev pub phase_after : Phase → Option Outcome → Phase
+phase_after p None = p
+phase_after p (Some (Joined x y)) = phase.Ready
+phase_after p (Some Shut) = phase.Shut
 
 -- in every state of a new drive that searches from a cell, and for which the memory stands: the steps come to what the plain drive's do,
 -- and the memory stands for the state after them
-abbrev pub ThinksAs : (l : Lattice) (aim : Guide) (scale : Scale) {M : Type 0} (value : M → scale.Value) (kept : M → ℕ → Type 0) → (home budget done : ℕ) → Thought → (before after : Memory M) → Type 0
+abbrev pub ThinksAs : (l : Lattice) (aim : Guide) (scale : Scale) {M : Type 0} (value : M → scale.Value) (kept : M → ℕ → Type 0) → (home budget done : ℕ) → Option Outcome → (before after : Memory M) → Type 0
 ThinksAs l aim scale value kept home budget done t before after =
     (terrain : Ground) (s : State (over l terrain aim scale)) (n : ℕ) →
     Fit (over l terrain aim scale) → Reached (over l terrain aim scale) s n → s.phase ≡ phase.Searching → s.cell ≡ home →

@@ -7,6 +7,7 @@ ghost use Rattle.drive.specs.Refusals.{allowed};
 ghost use Rattle.drive.specs.Beginning.{vetted_number, vet_refusal, begun, fresh_square, Laid, Stands};
 ghost use Rattle.drive.specs.Owning.{DriveMemory, Own};
 
+use crate::call::Lent;
 use crate::drive::Drive;
 use crate::refusal::Refusal;
 use board::square::{Square, put};
@@ -30,13 +31,12 @@ pub fn vet<C: Carrier, G: Guide, M: Measure>(
     if guide.goal() >= size {
         return Err(Refusal::GoalOffFloor);
     }
-    if board.len() < size as usize {
-        return Err(Refusal::ShortBoard);
-    }
-    if queue.len() < 8 * size as usize + 1 {
-        return Err(Refusal::ShortQueue);
-    }
-    Ok(())
+    let lent = Lent {
+        records: board.len(),
+        entries: Some(queue.len()),
+        at: None,
+    };
+    lent.check_room(size)
 }
 
 // A new drive from the carrier's cell, or a void one where vet refuses. The first records of the board, one for each cell, are laid out anew.
@@ -61,7 +61,7 @@ pub fn begin<C: Carrier, G: Guide, M: Measure>(
     Drive::at(guide, start)
 }
 
-// Lays out the record of each cell for a drive that begins.
+// Lays out the record of each cell for a drive that begins, by `put`, which alone writes records.
 fn lay_out<G: Guide, M: Measure>(guide: &G, start: u32, board: &mut [Square<M>])
     requires { (G.Lattice.grid guide.now).size ≤ length board.old }
     ensures { Laid (G.Lattice.grid guide.now) (G.Guide.aim guide.now) start (G.Lattice.grid guide.now).size board.old board.new }

@@ -1,7 +1,7 @@
 // The calls of a drive, and which of them is accepted when.
-ghost use Rattle.std.specs.Prelude.{◌≡◌};
+ghost use Rattle.std.specs.Prelude.{◌≡◌, ◌+◌, ◌*◌};
 ghost use Rattle.drive.specs.Refusals.{allowed};
-ghost use Rattle.drive.specs.Calls.{phase_refusal, queue_is_short, elsewhere, call_refusal};
+ghost use Rattle.drive.specs.Calls.{refuse_if, phase_refusal, lent_refusal, elsewhere, call_refusal};
 
 use crate::drive::Drive;
 use crate::refusal::Refusal;
@@ -17,6 +17,13 @@ pub enum Call {
     Tell,
 }
 
+// How many entries the queue has to have over a floor of so many cells: eight for each, and one more.
+pub fn queue_entries(size: u32) -> usize
+    ensures { result ≡ 8 * size + 1 }
+{
+    8 * size as usize + 1
+}
+
 // What a call is lent: so many records of the board, so many entries of the queue if any, and a carrier on a cell if any.
 #[derive(Clone, Copy)]
 pub(crate) struct Lent {
@@ -26,24 +33,28 @@ pub(crate) struct Lent {
 }
 
 impl Lent {
-    // Whether the queue is too short; a call that is lent none needs none.
-    fn short_queue(self, size: u32) -> bool
-        ensures { result ≡ queue_is_short self.entries size }
+    // Refuses a board of fewer records than cells, then a queue of too few entries; a call that is lent no queue needs none.
+    pub(crate) fn check_room(self, size: u32) -> Result<(), Refusal>
+        ensures { result ≡ allowed (lent_refusal self size) }
     {
-        match self.entries {
-            Some(entries) => entries < 8 * size as usize + 1,
-            None => false,
+        if self.records < size as usize {
+            return Err(Refusal::ShortBoard);
         }
+        let needed = queue_entries(size);
+        if self.entries.is_some_and(|entries| entries < needed) {
+            return Err(Refusal::ShortQueue);
+        }
+        Ok(())
     }
 
-    // Whether the carrier stands on another cell; a call that is lent none needs none.
-    fn elsewhere(self, cell: u32) -> bool
-        ensures { result ≡ elsewhere self.at cell }
+    // Refuses a carrier on another cell; a call that is lent none needs none.
+    fn check_place(self, cell: u32) -> Result<(), Refusal>
+        ensures { result ≡ allowed (refuse_if (elsewhere self.at cell) Refusal.WrongCell) }
     {
-        match self.at {
-            Some(at) => at != cell,
-            None => false,
+        if self.at.is_some_and(|at| at != cell) {
+            return Err(Refusal::WrongCell);
         }
+        Ok(())
     }
 }
 
@@ -56,22 +67,13 @@ impl<G: Guide> Drive<G> {
         if let Some(refusal) = self.void {
             return Err(refusal);
         }
-        let size = self.guide.size();
-        if lent.records < size as usize {
-            return Err(Refusal::ShortBoard);
-        }
-        if lent.short_queue(size) {
-            return Err(Refusal::ShortQueue);
-        }
+        lent.check_room(self.guide.size())?;
         admit(self.phase, call)?;
-        if lent.elsewhere(self.cell) {
-            return Err(Refusal::WrongCell);
-        }
-        Ok(())
+        lent.check_place(self.cell)
     }
 }
 
-// Before the end each phase accepts one call besides tell, and after it none.
+// Before the end each phase accepts one call besides tell, and after it none. One match on both, by a rule of the project.
 fn admit(phase: Phase, call: Call) -> Result<(), Refusal>
     ensures { result ≡ allowed (phase_refusal phase call) }
 {

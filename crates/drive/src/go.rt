@@ -8,13 +8,12 @@ ghost use Rattle.drive.specs.Going.{go_refusal, Stepped, moved_to};
 ghost use Rattle.drive.specs.Owning.{DriveMemory, Agrees};
 
 use crate::call::{Call, Lent};
-use crate::drive::Drive;
+use crate::drive::{Drive, phase_at};
 use crate::refusal::Refusal;
 use board::square::{Square, pointer};
 use carrier::Carrier;
 use floor::Guide;
 use measure::Measure;
-use model::Phase;
 
 impl<G: Guide> Drive<G> {
     // The cell that the carrier stepped onto.
@@ -49,11 +48,7 @@ impl<G: Guide> Drive<G> {
     fn moved(&mut self, cell: u32, cost: u8)
         ensures { self.new ≡ moved_to self.old cell cost (G.Guide.aim self.old.guide).goal }
     {
-        self.phase = if cell == self.guide.goal() {
-            Phase::Arrived
-        } else {
-            Phase::Unseen
-        };
+        self.phase = phase_at(&self.guide, cell);
         self.cell = cell;
         self.moves = self.moves.saturating_add(1);
         self.length = self.length.saturating_add(u32::from(cost));

@@ -5,33 +5,25 @@ ghost use Rattle.drive.specs.Refusals.{refusal_number};
 #[derive(Clone, Copy, PartialEq, Eq, Debug)]
 pub enum Refusal {
     // The goal is no cell of the floor.
-    GoalOffFloor,
+    GoalOffFloor = 8,
     // The board has fewer records than the floor has cells.
-    ShortBoard,
+    ShortBoard = 9,
     // The queue has under 8 entries for each cell and one more.
-    ShortQueue,
+    ShortQueue = 10,
     // The call is not of the drive's phase.
-    WrongPhase,
+    WrongPhase = 11,
     // A think was given no steps.
-    NoSteps,
+    NoSteps = 12,
     // The carrier stands on another cell than the drive left it on.
-    WrongCell,
+    WrongCell = 13,
     // The carrier refused the step.
-    StepRefused,
+    StepRefused = 14,
 }
 
 impl Refusal {
     pub fn number(&self) -> u32
         ensures { result ≡ refusal_number self.now }
     {
-        match self {
-            Refusal::GoalOffFloor => 8,
-            Refusal::ShortBoard => 9,
-            Refusal::ShortQueue => 10,
-            Refusal::WrongPhase => 11,
-            Refusal::NoSteps => 12,
-            Refusal::WrongCell => 13,
-            Refusal::StepRefused => 14,
-        }
+        *self as u32
     }
 }

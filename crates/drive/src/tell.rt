@@ -22,6 +22,7 @@ impl<G> Drive<G> {
         ensures { result ≡ telling self.now }
     {
         match self.phase {
+            // Written out, as a phase has no default.
             Phase::Void => Told {
                 phase: Phase::Void,
                 cell: 0,

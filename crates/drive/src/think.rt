@@ -16,27 +16,16 @@ use floor::Guide;
 use measure::Measure;
 use measure::queue::Entry;
 use model::Phase;
-use reconnect::state::Course;
-
-// What a think came to.
-#[derive(Clone, Copy, PartialEq, Eq, Debug)]
-pub enum Thought {
-    // The steps are used up, and the search goes on.
-    Spent,
-    // A way back to the tree was found, with the two numbers of its measure.
-    Joined(u32, u32),
-    // No way leads to the goal.
-    Shut,
-}
+use reconnect::state::Outcome;
 
 impl<G: Guide> Drive<G> {
-    // How many steps were done, and what they came to.
+    // How many steps were done, and how the search ended; where it goes on the steps are used up.
     pub fn think<M: Measure>(
         &mut self,
         board: &mut [Square<M>],
         queue: &mut [Entry<M>],
         budget: u32,
-    ) -> Result<(u32, Thought), Refusal>
+    ) -> Result<(u32, Option<Outcome>), Refusal>
         ensures refused { IfErr result (λ e. (think_refusal self.old board.old queue.old budget (G.Lattice.grid self.old.guide) ≡ Some e) × (self.new ≡ self.old) × (board.new ≡ board.old) × (queue.new ≡ queue.old)) }
         ensures accepted { OnOk result (think_refusal self.old board.old queue.old budget (G.Lattice.grid self.old.guide) ≡ None) }
         ensures beyond { drop (G.Lattice.grid self.old.guide).size board.new ≡ drop (G.Lattice.grid self.old.guide).size board.old }
@@ -59,23 +48,19 @@ impl<G: Guide> Drive<G> {
         board: &mut [Square<M>],
         queue: &mut [Entry<M>],
         budget: u32,
-    ) -> (u32, Thought)
+    ) -> (u32, Option<Outcome>)
         ensures drive { self.new ≡ turned self.old (phase_after self.old.phase result.1) self.new.search }
         ensures thinks { ThinksAs (G.Lattice.grid self.old.guide) (G.Guide.aim self.old.guide) M.Measure.scale M.Measure.value M.Measure.kept self.old.cell budget result.0 result.1 (record { search = self.old.search; board = board.old; queue = queue.old }) (record { search = self.new.search; board = board.new; queue = queue.new }) }
     {
         for done in 0..budget {
-            match self.search.step(&self.guide, self.cell, board, queue) {
-                Course::Going => {}
-                Course::Joined(first, second) => {
-                    self.phase = Phase::Ready;
-                    return (done + 1, Thought::Joined(first, second));
-                }
-                Course::Shut => {
-                    self.phase = Phase::Shut;
-                    return (done + 1, Thought::Shut);
-                }
+            if let Some(outcome) = self.search.step(&self.guide, self.cell, board, queue) {
+                self.phase = match outcome {
+                    Outcome::Joined(_, _) => Phase::Ready,
+                    Outcome::Shut => Phase::Shut,
+                };
+                return (done + 1, Some(outcome));
             }
         }
-        (budget, Thought::Spent)
+        (budget, None)
     }
 }

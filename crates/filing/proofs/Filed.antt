@@ -51,20 +51,20 @@ pub accepted : {X : Type 0} (check : Result (Unit {0}) HeadingFault) (room : Boo
 accepted {X = X} check room x y good fits e =
     ap (λ (z : X). Ok z) e ∙ sym (cond-true room (Ok y) (Err Full) fits) ∙ ap (λ (t : Result (Unit {0}) HeadingFault). checked t (cond room (Ok y) (Err Full))) (sym good)
 
--- what an accepted closing and an accepted beginning give
-pub closed_bytes : {X Y : Type 0} (room : Bool) (x y : X) (u : Y) → Ok x ≡ cond room (Ok y) (Err u) → x ≡ y
+-- what an accepted beginning gives
+closed_bytes : {X Y : Type 0} (room : Bool) (x y : X) (u : Y) → Ok x ≡ cond room (Ok y) (Err u) → x ≡ y
 closed_bytes true x y u e = cc
-closed_bytes false x y u e = let z : ◌≡◌ {A = ℕ} 0 1 = cc in absurd (omega arith)
+closed_bytes false x y u e = cc
 
 pub begun_pen : {X : Type 0} (check : Result (Unit {0}) HeadingFault) (room : Bool) (x y : X) → Ok x ≡ checked check (cond room (Ok y) (Err Full)) → x ≡ y
 begun_pen (Ok _) room x y e = closed_bytes room x y Full e
-begun_pen (Err f) room x y e = let z : ◌≡◌ {A = ℕ} 0 1 = cc in absurd (omega arith)
+begun_pen (Err f) room x y e = cc
 
 -- what it was accepted for
 pub begun_checks : {X : Type 0} (check : Result (Unit {0}) HeadingFault) (room : Bool) (x y : X) → Ok x ≡ checked check (cond room (Ok y) (Err Full)) → (check ≡ Ok tt) × (room ≡ true)
 begun_checks (Ok _) true x y e = (refl, refl)
-begun_checks (Ok _) false x y e = let z : ◌≡◌ {A = ℕ} 0 1 = cc in absurd (omega arith)
-begun_checks (Err f) room x y e = let z : ◌≡◌ {A = ℕ} 0 1 = cc in absurd (omega arith)
+begun_checks (Ok _) false x y e = absurd cc
+begun_checks (Err f) room x y e = absurd cc
 
 pub penned_none : (pen : Pen) (begun : List ℕ) → pen ≡ pen_behind [] → Penned [] begun pen begun
 penned_none pen begun e = record { stands = e; bytes = overwritten_none begun 96 }

@@ -1,3 +1,4 @@
 -- Lemmas on records.
+pub mod Columns
 pub mod Writing
 pub mod Filed

@@ -1,14 +1,12 @@
 -- Lines of a record as they are written: how long they are, and one write after another.
-use Rattle.std.proofs.Common.{◌≡◌, ℕ, ◌+◌, ◌<◌, ◌≤◌, List, [], ◌∷◌, ◌++◌, length, get_or, take, drop, codes, sym, refl, ap, ◌∙◌, append_assoc, add-zero, arith, length-append, length-drop}
+use Rattle.std.proofs.Common.{◌≡◌, ℕ, ◌+◌, ◌<◌, ◌≤◌, List, [], ◌∷◌, ◌++◌, length, get_or, take, drop, codes, sym, refl, ap, ◌∙◌, append_assoc, add-zero, length-append}
 use lib.Seq.{paste}
-use Rattle.std.proofs.lemmas.List.{append-nil, take-append-drop, length-take-le, take_more}
+use Rattle.std.proofs.lemmas.List.{append-nil, take-append-drop, take_more}
 use Rattle.std.proofs.lemmas.List.Edits.{paste_all, paste-paste}
 use Rattle.texts.specs.declared.heading.Heading.{Heading}
-use Rattle.filing.specs.declared.pen.Ending.{Ending}
-use Rattle.filing.specs.declared.pen.Ending.TheVariants.{Done, Shut}
 use Rattle.texts.specs.Fields.{field_text, fields_text}
 use Rattle.texts.specs.Headings.{heading_numbers}
-use Rattle.filing.specs.Pen.{path_line, row_line, closing_line}
+use Rattle.filing.specs.Pen.{path_line, row_line}
 use Rattle.texts.proofs.Fielded.{length_written_line}
 use Rattle.filing.specs.Written.{overwritten}
 
@@ -19,10 +17,6 @@ length_path_line h = length_written_line (codes "PATH") (heading_numbers h)
 
 pub length_row_line : (number cell far : ℕ) → length (row_line number cell far) ≡ 31
 length_row_line number cell far = length_written_line [] (number ∷ cell ∷ far ∷ [])
-
-pub length_closing_line : (ending : Ending) (moves far rock : ℕ) → length (closing_line ending moves far rock) ≡ 35
-length_closing_line Done moves far rock = length_written_line (codes "DONE") (moves ∷ far ∷ rock ∷ [])
-length_closing_line Shut moves far rock = length_written_line (codes "SHUT") (moves ∷ far ∷ rock ∷ [])
 
 -- ---- one write after another
 
@@ -42,12 +36,6 @@ overwritten_more buffer one two at end front back first second e within =
 pub overwritten_none : (buffer : List ℕ) (at : ℕ) → buffer ≡ overwritten buffer at []
 unfolding overwritten
 overwritten_none buffer at = sym (ap (λ (n : ℕ). take at buffer ++ drop n buffer) (add-zero at) ∙ take-append-drop at buffer)
-
-pub length_overwritten : (buffer : List ℕ) (at : ℕ) (bytes : List ℕ) → at + length bytes ≤ length buffer → length (overwritten buffer at bytes) ≡ length buffer
-unfolding overwritten
-length_overwritten buffer at bytes within =
-    let front : length (take at buffer) ≡ at = length-take-le at buffer (omega arith) in
-    simp (length-append, length-drop) (omega arith)
 
 pub fields_text_push : (ns : List ℕ) (n : ℕ) → fields_text (ns ++ n ∷ []) ≡ fields_text ns ++ field_text n
 fields_text_push [] n = append-nil (field_text n)

@@ -21,12 +21,12 @@ impl From<HeadingFault> for PenFault {
     }
 }
 
-impl PenFault {
-    pub fn report(&self) -> Report
-        ensures { result ≡ pen_report self.now }
-    {
-        match *self {
-            PenFault::Heading(heading) => heading.report(),
+impl From<PenFault> for Report {
+    ghost from_gives = { λ fault r. r ≡ pen_report fault };
+
+    fn from(fault: PenFault) -> Report {
+        match fault {
+            PenFault::Heading(heading) => Report::from(heading),
             PenFault::Full => Report::nowhere(30),
         }
     }

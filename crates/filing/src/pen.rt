@@ -6,7 +6,7 @@ ghost use Rattle.std.specs.Prelude.{◌≡◌, ◌+◌, ◌≤◌, length as len
 ghost use Rattle.filing.specs.declared.fault.PenFault.TheVariants as pen-fault;
 ghost use Rattle.filing.specs.declared.pen.Ending.TheVariants.{Done, Shut};
 ghost use Rattle.filing.specs.Written.{overwritten};
-ghost use Rattle.filing.specs.Pen.{path_line, row_line, LetGo, begin_answer, begin_lines, row_answer, next_line, after_row, close_answer, last_line, rows_fit, file_answer, record_text};
+ghost use Rattle.filing.specs.Pen.{path_line, row_line, ending_word, LetGo, begin_answer, begin_lines, row_answer, next_line, after_row, close_answer, last_line, rows_fit, file_answer, record_text};
 
 use crate::fault::PenFault;
 use crate::write::{has_room, put_line};
@@ -26,6 +26,18 @@ pub enum Ending {
     Shut,
 }
 
+impl Ending {
+    // The word of the closing line.
+    pub fn word(self) -> &'static str
+        ensures { result.now ≡ ending_word self }
+    {
+        match self {
+            Ending::Done => "DONE",
+            Ending::Shut => "SHUT",
+        }
+    }
+}
+
 // A row after row 0: the cell, and the length so far.
 #[derive(Clone, Copy, PartialEq, Eq, Debug)]
 pub struct Row {
@@ -33,6 +45,7 @@ pub struct Row {
     pub length: u32,
 }
 
+// Plain numbers and no buffer, by rule: the buffer is lent with each call, and `drop` lets no open record go.
 pub struct Pen {
     // The bytes written so far.
     at: usize,
@@ -57,6 +70,17 @@ impl Drop for Pen {
 pub struct Unclosed {
     pub pen: Pen,
     pub fault: PenFault,
+}
+
+impl Unclosed {
+    // Gives the record up, and says why it could not be closed.
+    pub fn give_up(self) -> PenFault
+        ensures { result ≡ self.fault }
+    {
+        let Unclosed { pen, fault } = self;
+        pen.abandon();
+        fault
+    }
 }
 
 impl Pen {
@@ -93,6 +117,7 @@ impl Pen {
     }
 
     // Closes the record of a drive that arrived, and gives the bytes of the whole record.
+    // By a rule of the project a pen is spent by `done`, `shut` or `abandon`, so these are two calls.
     pub fn done(self, buffer: &mut [u8], rock: u32) -> Result<usize, Unclosed>
         ensures answer { result ≡ close_answer self buffer.old }
         ensures bytes { buffer.new ≡ (if is_ok result then overwritten buffer.old self.at (last_line Done self rock) else buffer.old) }
@@ -127,11 +152,8 @@ impl Pen {
                 fault: PenFault::Full,
             });
         }
-        let word = match ending {
-            Ending::Done => b"DONE",
-            Ending::Shut => b"SHUT",
-        };
         let Pen { at, row, length } = self;
+        let word = ending.word().as_bytes();
         Ok(put_line(buffer, at, word, &[row, length, rock]))
     }
 }
@@ -194,13 +216,7 @@ pub fn file(
             return Err(fault);
         }
     }
-    match pen.close(buffer, ending, rock) {
-        Ok(bytes) => Ok(bytes),
-        Err(Unclosed { pen, fault }) => {
-            pen.abandon();
-            Err(fault)
-        }
-    }
+    pen.close(buffer, ending, rock).map_err(Unclosed::give_up)
 }
 
 // Whether there are bytes for a record with these rows, and numbers for them.
@@ -208,7 +224,7 @@ fn rows_fit(buffer: &[u8], rows: &[Row]) -> bool
     ensures { result ≡ rows_fit (length_of rows.now) (length_of buffer.now) }
 {
     let fixed = PATH_LINE + ROW_LINE + CLOSING_LINE;
-    rows.len() <= u32::MAX as usize && fixed + ROW_LINE * rows.len() <= buffer.len()
+    u32::try_from(rows.len()).is_ok() && fixed + ROW_LINE * rows.len() <= buffer.len()
 }
 
 #[cfg(test)]

@@ -1,42 +1,25 @@
 // Writing lines of words and fields into a buffer that the caller lends.
-ghost use Rattle.std.specs.Prelude.{◌≡◌, ◌+◌, ◌*◌, ◌/◌, ◌%◌, ◌<◌, ◌≤◌, ◌||◌, leb, length, is_some, if◌then◌else◌, ◌==◌, nat_le};
+ghost use Rattle.std.specs.Prelude.{◌≡◌, ◌+◌, ◌*◌, ◌≤◌, length, is_some, if◌then◌else◌, nat_le};
 ghost use Rattle.texts.specs.Fields.{field_text, written_line};
 ghost use Rattle.filing.specs.Written.{fits, overwritten, line_answer};
+
+use itoa::write_digits;
 
 // The columns of a field.
 const FIELD: usize = 10;
 
-// A number as its ten columns.
+// A number as its ten columns: its digits behind blanks.
+#[tactic(auto, using(crate::proofs::Columns::digits_fit, crate::proofs::Columns::digits_as_field))]
 pub fn field(n: u32) -> [u8; 10]
     ensures { result ≡ field_text n }
 {
-    [
-        column(n, 1_000_000_000),
-        column(n, 100_000_000),
-        column(n, 10_000_000),
-        column(n, 1_000_000),
-        column(n, 100_000),
-        column(n, 10_000),
-        column(n, 1_000),
-        column(n, 100),
-        column(n, 10),
-        column(n, 1),
-    ]
-}
-
-// The digit that counts this power of ten, or a blank to the left of the number.
-fn column(n: u32, power: u32) -> u8
-    requires { 0 < power }
-    ensures { result ≡ (if leb power n || power == 1 then 48 + (n / power) % 10 else 32) }
-{
-    if power <= n || power == 1 {
-        b'0' + (n / power % 10) as u8
-    } else {
-        b' '
-    }
+    let mut columns = [b' '; FIELD];
+    write_digits(u64::from(n), &mut columns, FIELD);
+    columns
 }
 
 // Writes a line from `at` on, and gives the place behind it; writes nothing where the line does not fit.
+#[tactic(auto, using(texts::proofs::Fielded::length_written_line))]
 pub fn line(buffer: &mut [u8], at: usize, word: &[u8], fields: &[u32]) -> Option<usize>
     ensures place { result ≡ line_answer buffer.old at (written_line word.now fields.now) }
     ensures bytes { buffer.new ≡ (if is_some result then overwritten buffer.old at (written_line word.now fields.now) else buffer.old) }
@@ -47,7 +30,7 @@ pub fn line(buffer: &mut [u8], at: usize, word: &[u8], fields: &[u32]) -> Option
     Some(put_line(buffer, at, word, fields))
 }
 
-// Whether a line fits the buffer from `at` on, however many fields there are.
+// Whether a line fits the buffer from `at` on; it divides, so that no number of fields overflows.
 fn line_fits(buffer: &[u8], at: usize, word: &[u8], fields: &[u32]) -> bool
     ensures { result ≡ nat_le (at + length word.now + 10 * length fields.now + 1) (length buffer.now) }
 {
@@ -59,7 +42,7 @@ fn line_fits(buffer: &[u8], at: usize, word: &[u8], fields: &[u32]) -> bool
 pub(crate) fn has_room(buffer: &[u8], at: usize, bytes: usize) -> bool
     ensures { result ≡ fits buffer.now at bytes }
 {
-    at <= buffer.len() && bytes <= buffer.len() - at
+    buffer.get(at..).is_some_and(|rest| bytes <= rest.len())
 }
 
 // Writes a line from `at` on, and gives the place behind it.
@@ -76,6 +59,7 @@ pub(crate) fn put_line(buffer: &mut [u8], at: usize, word: &[u8], fields: &[u32]
 }
 
 // Writes bytes from `at` on, and gives the place behind them.
+#[tactic(auto, unfolding(crate::specs::Written::overwritten))]
 fn put(buffer: &mut [u8], at: usize, bytes: &[u8]) -> usize
     requires { at + length bytes.now ≤ length buffer.old }
     ensures place { result ≡ at + length bytes.now }

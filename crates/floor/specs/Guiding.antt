@@ -2,6 +2,7 @@
 use Rattle.std.specs.Prelude.{◌≡◌, ℕ, ◌+◌, ◌-◌, ◌*◌, ◌/◌, ◌%◌, ◌<◌, ◌≤◌, Bool, true, false, cond, ◌&&◌, Some, None, ◌≢◌, nat_lt, refl}
 use Rattle.std.proofs.Common.{sym, ◌∙◌, ap, subst, arith}
 use Rattle.std.proofs.Math.Path.{ap₂}
+use Rattle.std.proofs.lemmas.Bool.{and_parts}
 use Rattle.std.proofs.Math.Arith.{digits_div, digits_mod}
 use borrow.Author.Tests.{ltb-true, lt-ltb, eq-eqb, clash}
 use Rattle.model.specs.Lattice.{Guiding, lead, same_distance, plus}
@@ -9,7 +10,7 @@ use Rattle.model.specs.Floors.{Way, up, same, down, used, odd, gap, straight, sl
 use Rattle.model.proofs.Basics.Tests.{same_some, none_some}
 use Rattle.floor.specs.Leads.{none_passes, nearer, nearer_at}
 use Rattle.floor.specs.Cells.{column_below, row_below, cell_below, same_cell}
-use Rattle.floor.specs.Ways.{both, used_bounds, direction_of, its_column_way, its_row_way, Goes}
+use Rattle.floor.specs.Ways.{used_bounds, direction_of, its_column_way, its_row_way, Goes}
 use Rattle.floor.specs.Steps.{Stepped}
 use Rattle.floor.specs.Lawful.{on_floor, Sized, goes_there}
 use Rattle.floor.specs.Nearing.{Left, Nearing, nearing, gap_none, gap_self}
@@ -53,7 +54,7 @@ module _ (far : ℕ → ℕ → ℕ) (uses : ℕ → Bool) (w h goal : ℕ) (siz
   has a m e = go (nat_lt a (w * h) && nat_lt goal (w * h)) refl e
     where
       go : (t : Bool) → (nat_lt a (w * h) && nat_lt goal (w * h)) ≡ t → cond t (Some (between far w a goal)) None ≡ Some m → (a < w * h) × (goal < w * h) × (between far w a goal ≡ m)
-      go true t e = let cells = both (nat_lt a (w * h)) (nat_lt goal (w * h)) t in (ltb-true a (w * h) cells.0, ltb-true goal (w * h) cells.1, same_some e)
+      go true t e = let cells = and_parts (nat_lt a (w * h)) (nat_lt goal (w * h)) t in (ltb-true a (w * h) cells.0, ltb-true goal (w * h) cells.1, same_some e)
       go false t e = absurd (none_some e)
 
   is_far : (a : ℕ) → a < w * h → goal < w * h → (towards_goal far w h goal).distance a ≡ Some (between far w a goal)
@@ -84,7 +85,7 @@ module _ (far : ℕ → ℕ → ℕ) (uses : ℕ → Bool) (w h goal : ℕ) (siz
 
 pub streets_guiding : (w h goal : ℕ) → Sized w h → Guiding (streets w h) (towards_goal straight w h goal)
 streets_guiding w h goal sized =
-    on_floor_guiding straight (λ d. used d && odd d) w h goal sized (λ d e. (both (used d) (odd d) e).0) refl (λ p q e. (omega arith, omega arith)) onward
+    on_floor_guiding straight (λ d. used d && odd d) w h goal sized (λ d e. (and_parts (used d) (odd d) e).0) refl (λ p q e. (omega arith, omega arith)) onward
   where
     onward : (a : ℕ) → a < w * h → goal < w * h → (a ≢ goal) → Heads straight (λ d. used d && odd d) w h a goal
     onward a l m off = go x.way y.way x.goes y.goes x.left y.left
@@ -113,39 +114,16 @@ streets_guiding w h goal sized =
         go same same i j p q = absurd (off (same_cell a goal w (gap_none (a % w) (goal % w) p) (gap_none (a / w) (goal / w) q)))
 
 -- Kings: to the goal's column and row at once
-slants : (p q m n : ℕ) → 1 ≤ p → 1 ≤ q → m ≡ p - 1 → n ≡ q - 1 → slanting m n + 7 ≡ slanting p q
-slants p q m n i j e f =
-    let plain : slanting m n + 7 ≡ slanting (m + 1) (n + 1) = next m n in
-    let column : m + 1 ≡ p = omega arith in
-    let row : n + 1 ≡ q = omega arith in
-    plain ∙ ap₂ slanting column row
-  where
-    next : (m n : ℕ) → slanting m n + 7 ≡ slanting (m + 1) (n + 1)
-    next m n = omega arith
-
-slides : (p q m n : ℕ) → 1 ≤ p → q ≡ 0 → m ≡ p - 1 → n ≡ q - 1 → (slanting m n + 5 ≡ slanting p q) × (slanting n m + 5 ≡ slanting q p)
-slides p q m n i j e f =
-    let column : m + 1 ≡ p = omega arith in
-    let row : 0 ≡ q = omega arith in
-    let still : n ≡ 0 = omega arith in
-    (ap (λ x. slanting m x + 5) still ∙ across m ∙ ap₂ slanting column row, ap (λ x. slanting x m + 5) still ∙ along m ∙ ap₂ slanting row column)
-  where
-    across : (m : ℕ) → slanting m 0 + 5 ≡ slanting (m + 1) 0
-    across m = omega arith
-
-    along : (m : ℕ) → slanting 0 m + 5 ≡ slanting 0 (m + 1)
-    along m = omega arith
-
 slanting_sum : (v u : Way) (p q m n : ℕ) → Left v p → Left u q → m ≡ p - 1 → n ≡ q - 1 → used (direction_of v u) ≡ true → slanting m n + price (direction_of v u) ≡ slanting p q
-slanting_sum up up p q m n i j e f t = slants p q m n i j e f
-slanting_sum up same p q m n i j e f t = (slides p q m n i j e f).0
-slanting_sum up down p q m n i j e f t = slants p q m n i j e f
-slanting_sum same up p q m n i j e f t = (slides q p n m j i f e).1
+slanting_sum up up p q m n i j e f t = omega arith
+slanting_sum up same p q m n i j e f t = omega arith
+slanting_sum up down p q m n i j e f t = omega arith
+slanting_sum same up p q m n i j e f t = omega arith
 slanting_sum same same p q m n i j e f t = absurd (clash t)
-slanting_sum same down p q m n i j e f t = (slides q p n m j i f e).1
-slanting_sum down up p q m n i j e f t = slants p q m n i j e f
-slanting_sum down same p q m n i j e f t = (slides p q m n i j e f).0
-slanting_sum down down p q m n i j e f t = slants p q m n i j e f
+slanting_sum same down p q m n i j e f t = omega arith
+slanting_sum down up p q m n i j e f t = omega arith
+slanting_sum down same p q m n i j e f t = omega arith
+slanting_sum down down p q m n i j e f t = omega arith
 
 -- the two ways are a direction, unless both are done
 some_way : (v u : Way) (p q : ℕ) → Left v p → Left u q → (p ≡ 0 → q ≢ 0) → used (direction_of v u) ≡ true

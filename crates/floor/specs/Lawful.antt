@@ -1,10 +1,11 @@
 -- A lattice of directions on a floor is lawful, if the opposite of each is one of them.
 use Rattle.std.specs.Prelude.{◌≡◌, ℕ, ◌*◌, ◌/◌, ◌%◌, ◌≤◌, Bool, true, false, cond, ◌&&◌, Some, None, refl}
 use Rattle.std.proofs.Common.{sym, ◌∙◌, ap, ap₂, subst, mul-le-mul, arith}
+use Rattle.std.proofs.lemmas.Bool.{and_parts}
 use Rattle.model.specs.Lattice.{Lattice, Lawful}
 use Rattle.model.specs.Floors.{same, column_way, row_way, floor_beside, used, odd, facing, streets, kings}
 use Rattle.model.proofs.Basics.Tests.{none_some}
-use Rattle.floor.specs.Ways.{both, used_bounds, direction_of, known_by_ways, facing_column, facing_row, facing_used, facing_straight, Goes, goes_back, goes_one_way}
+use Rattle.floor.specs.Ways.{used_bounds, direction_of, known_by_ways, facing_column, facing_row, facing_used, facing_straight, Goes, goes_back, goes_one_way}
 use Rattle.floor.specs.Steps.{Stepped, stepped, steps}
 
 -- the lattice of the directions that pass a test
@@ -70,7 +71,7 @@ module _ (uses : ℕ → Bool) (w h : ℕ) (sized : Sized w h) (in_use : (d : �
       price false = (omega arith, omega arith)
 
 pub streets_lawful : (w h : ℕ) → Sized w h → Lawful (streets w h)
-streets_lawful w h sized = on_floor_lawful (λ d. used d && odd d) w h sized (λ d e. (both (used d) (odd d) e).0) facing_straight
+streets_lawful w h sized = on_floor_lawful (λ d. used d && odd d) w h sized (λ d e. (and_parts (used d) (odd d) e).0) facing_straight
 
 pub kings_lawful : (w h : ℕ) → Sized w h → Lawful (kings w h)
 kings_lawful w h sized = on_floor_lawful used w h sized (λ d e. e) facing_used

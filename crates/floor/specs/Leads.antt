@@ -1,5 +1,5 @@
 -- The first direction that passes a test: where it is found, and what it says of the others that there is none.
-use Rattle.std.specs.Prelude.{◌≡◌, ℕ, zero, suc, ◌+◌, ◌-◌, ◌≤◌, Bool, true, false, cond, Some, None, ◌==◌, ◌≢◌, refl}
+use Rattle.std.specs.Prelude.{◌≡◌, ℕ, zero, suc, ◌+◌, ◌-◌, ◌<◌, ◌≤◌, Bool, true, false, cond, Some, ◌==◌, ◌≢◌, refl}
 use Rattle.std.proofs.Common.{sym, ◌∙◌, ap, subst, arith}
 use Rattle.std.proofs.Math.Decide.{ℕ_discrete}
 use Rattle.std.proofs.Math.Dec.{eqb-suc-zero}
@@ -12,6 +12,11 @@ still_none n p e f = go (first_direction n p) e (p (suc n)) f
   where
     go : (d : ℕ) → d ≡ 0 → (t : Bool) → t ≡ false → cond (d == 0) (cond t (suc n) 0) d ≡ 0
     go d e t f = ap (λ x. cond (x == 0) (cond t (suc n) 0) x) e ∙ ap (λ x. cond x (suc n) 0) f
+
+-- where none of the first n passes, none is found
+pub none_first : (n : ℕ) (p : ℕ → Bool) → ((i : ℕ) → i < n → p (suc i) ≡ false) → first_direction n p ≡ 0
+none_first zero p h = refl
+none_first (suc n) p h = still_none n p (none_first n p (λ i l. h i (omega arith))) (h n (omega arith))
 
 -- none before it passes, and it does: it is the first
 pub found_first : (n m : ℕ) (p : ℕ → Bool) → first_direction n p ≡ 0 → p (suc n) ≡ true → suc n ≤ m → first_direction m p ≡ suc n
@@ -66,6 +71,3 @@ nearer l g a d = same_distance (plus (then_at (l.beside a d) g.distance) (l.cost
 
 pub nearer_at : (l : Lattice) (g : Guide) (a d b : ℕ) → Some b ≡ l.beside a d → same_distance (plus (g.distance b) (l.cost d)) (g.distance a) ≡ nearer l g a d
 nearer_at l g a d b e = ap (λ o. same_distance (plus (then_at o g.distance) (l.cost d)) (g.distance a)) e
-
-pub nearer_none : (l : Lattice) (g : Guide) (a d : ℕ) → None ≡ l.beside a d → nearer l g a d ≡ false
-nearer_none l g a d e = sym (ap (λ o. same_distance (plus (then_at o g.distance) (l.cost d)) (g.distance a)) e)

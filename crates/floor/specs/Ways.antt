@@ -1,52 +1,39 @@
 -- The eight directions by the ways they go, and what going up or down does to a number.
-use Rattle.std.specs.Prelude.{◌≡◌, ℕ, ◌+◌, ◌-◌, ◌<◌, ◌≤◌, Bool, true, false, cond, ◌&&◌, Some, None, ◌==◌, nat_le, nat_lt, refl}
+use Rattle.std.specs.Prelude.{◌≡◌, ℕ, ◌+◌, ◌-◌, ◌<◌, ◌≤◌, Bool, true, false, cond, ◌&&◌, Some, None, ◌==◌, ◌≢◌, nat_le, nat_lt, refl}
 use Rattle.std.proofs.Common.{sym, ◌∙◌, ap, subst, arith}
 use Rattle.std.proofs.Math.Decide.{ℕ_discrete}
+use Rattle.std.proofs.lemmas.Bool.{and_parts}
 use borrow.Author.Tests.{ltb-true, leb-true, eqb-false, lt-ltb, ne_eqb, clash}
 use Rattle.model.specs.Floors.{Way, up, same, down, column_way, row_way, shifted, used, odd, facing}
 use Rattle.model.proofs.Basics.Tests.{same_some, none_some}
+use Rattle.floor.specs.declared.directions.Way.{Way as CodeWay}
+use Rattle.floor.specs.declared.directions.Way.TheVariants.{Up, Same, Down}
 
--- both of two tests pass
-pub both : (a b : Bool) → (a && b) ≡ true → (a ≡ true) × (b ≡ true)
-both true b e = (refl, e)
-both false b e = absurd (clash e)
+-- the way that a way of the code stands for
+abbrev pub meant : CodeWay → Way
+meant Up = up
+meant Same = same
+meant Down = down
 
 pub used_bounds : (d : ℕ) → used d ≡ true → (1 ≤ d) × (d ≤ 8)
-used_bounds d e = let t = both (nat_le 1 d) (nat_le d 8) e in (leb-true 1 d t.0, leb-true d 8 t.1)
+used_bounds d e = let t = and_parts (nat_le 1 d) (nat_le d 8) e in (leb-true 1 d t.0, leb-true d 8 t.1)
+
+-- what holds of n holds of d, if it holds of a d that is not n
+or_else : (P : ℕ → Type 0) (d n : ℕ) → P n → ((d ≢ n) → P d) → P d
+or_else P d n p rest = elim (ℕ_discrete d n) [ yes q ↦ subst P (sym q) p | no off ↦ rest off ]
 
 -- what holds of 1 to 8 holds of every direction
 pub each : (P : ℕ → Type 0) → P 1 → P 2 → P 3 → P 4 → P 5 → P 6 → P 7 → P 8 → (d : ℕ) → used d ≡ true → P d
 each P p1 p2 p3 p4 p5 p6 p7 p8 d e =
     let l = used_bounds d e in
-    elim (ℕ_discrete d 1) [
-      | yes q ↦ subst P (sym q) p1
-      | no n1 ↦
-          elim (ℕ_discrete d 2) [
-            | yes q ↦ subst P (sym q) p2
-            | no n2 ↦
-                elim (ℕ_discrete d 3) [
-                  | yes q ↦ subst P (sym q) p3
-                  | no n3 ↦
-                      elim (ℕ_discrete d 4) [
-                        | yes q ↦ subst P (sym q) p4
-                        | no n4 ↦
-                            elim (ℕ_discrete d 5) [
-                              | yes q ↦ subst P (sym q) p5
-                              | no n5 ↦
-                                  elim (ℕ_discrete d 6) [
-                                    | yes q ↦ subst P (sym q) p6
-                                    | no n6 ↦
-                                        elim (ℕ_discrete d 7) [
-                                          | yes q ↦ subst P (sym q) p7
-                                          | no n7 ↦
-                                              elim (ℕ_discrete d 8) [ yes q ↦ subst P (sym q) p8 | no n8 ↦ absurd (omega arith) ]
-                                        ]
-                                  ]
-                            ]
-                      ]
-                ]
-          ]
-    ]
+    or_else P d 1 p1 (λ n1.
+    or_else P d 2 p2 (λ n2.
+    or_else P d 3 p3 (λ n3.
+    or_else P d 4 p4 (λ n4.
+    or_else P d 5 p5 (λ n5.
+    or_else P d 6 p6 (λ n6.
+    or_else P d 7 p7 (λ n7.
+    or_else P d 8 p8 (λ n8. absurd (omega arith)))))))))
 
 -- the direction that goes these ways between columns and between rows
 abbrev pub direction_of : Way → Way → ℕ
@@ -103,7 +90,7 @@ facing_used d e = each (λ k. used (facing k) ≡ true) refl refl refl refl refl
 pub facing_straight : (d : ℕ) → (used d && odd d) ≡ true → (used (facing d) && odd (facing d)) ≡ true
 facing_straight d e =
     let off : (n : ℕ) → false ≡ true → (used n && odd n) ≡ true = λ n z. absurd (clash z) in
-    each (λ k. (used k && odd k) ≡ true → (used (facing k) && odd (facing k)) ≡ true) (λ z. refl) (off 6) (λ z. refl) (off 8) (λ z. refl) (off 2) (λ z. refl) (off 4) d (both (used d) (odd d) e).0 e
+    each (λ k. (used k && odd k) ≡ true → (used (facing k) && odd (facing k)) ≡ true) (λ z. refl) (off 6) (λ z. refl) (off 8) (λ z. refl) (off 2) (λ z. refl) (off 4) d (and_parts (used d) (odd d) e).0 e
 
 -- m is one more than k, the same, or one less
 abbrev pub Goes : Way → ℕ → ℕ → Type 0

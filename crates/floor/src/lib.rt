@@ -8,9 +8,12 @@ pub mod aiming;
 mod directions;
 pub mod extent;
 pub mod kings;
+pub mod squares;
 pub mod streets;
 
 // Cells that are numbered from 0, with up to eight neighbours each, one in each direction.
+//
+// A direction is a number and no enum, by a rule of the project: every number has its answers.
 pub trait Lattice {
     ghost grid: { Self → Grid };
 
@@ -44,15 +47,13 @@ pub trait Guide: Lattice {
         ensures { result ≡ lead (Self.Lattice.grid self.now) (aim self.now) cell }
     {
         let own = self.distance(cell);
-        for direction in 1..=8 {
-            let Some(next) = self.beside(cell, direction) else {
-                continue;
-            };
-            if is_sum(own, self.distance(next), self.cost(direction)) {
-                return direction;
-            }
-        }
-        0
+        let leads = |direction: &u8| {
+            let next = self
+                .beside(cell, *direction)
+                .and_then(|next| self.distance(next));
+            is_sum(own, next, self.cost(*direction))
+        };
+        (1..=8).find(leads).unwrap_or(0)
     }
 
     ghost guiding: { (g : Self) → Guiding (Self.Lattice.grid g) (aim g) };

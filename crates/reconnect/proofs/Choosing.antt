@@ -1,7 +1,6 @@
 -- The first entry of the queue whose cell waits is that of the cell to be taken.
 use Rattle.std.proofs.Common.{◌≡◌, ℕ, ◌<◌, ◌≤◌, Bool, true, false, not, ◌&&◌, ◌||◌, ◌⊎◌, List, length, take, sym, refl, ap, ◌∙◌, subst, ⊎_elim, arith, leb-true}
 use native.Mathlib.Decide.{ℕ_discrete}
-use borrow.Author.Tests.{both_ways}
 use Rattle.std.specs.List.{ContainsAt as Has}
 use Rattle.std.proofs.ByRecursion.{All-weaker}
 use Rattle.model.specs.Scale.{Scale, Ordered}
@@ -22,15 +21,15 @@ use Rattle.reconnect.proofs.Queues.{removed_length}
 -- what a test of two orders says
 first_of : (x y z : Bool) → (x && (not y || z)) ≡ true → (x ≡ true) × (y ≡ true → z ≡ true)
 first_of true true z e = (refl, λ _. e)
-first_of true false z e = (refl, λ f. absurd (both_ways false refl f))
-first_of false y z e = absurd (both_ways false refl e)
+first_of true false z e = (refl, λ f. cc)
+first_of false y z e = cc
 
 module _ {M : Type 0} (scale : Scale) (ordered : Ordered scale) (value : M → scale.Value) (size : ℕ) (stages : ℕ → plain.Stage scale.Value) where
   -- a stage that is not waiting is shown as none that waits
   stage_waits : (t : Stage M) → ((m : M) (b : ℕ) → t ≡ stage.Waiting m b → ⊥) → (v : scale.Value) (b : ℕ) → stage_shown value t ≡ plain.waiting v b → ⊥
-  stage_waits stage.Idle h v b e = let z : ◌≡◌ {A = ℕ} 0 1 = cc in omega arith
+  stage_waits stage.Idle h v b e = cc
   stage_waits (stage.Waiting m d) h v b e = h m d refl
-  stage_waits (stage.Taken m d) h v b e = let z : ◌≡◌ {A = ℕ} 0 1 = cc in omega arith
+  stage_waits (stage.Taken m d) h v b e = cc
 
   -- where the queue is empty no cell waits
   pub none_waits : (xs : List (Entry M)) (n : ℕ) → (n ≡ 0) ⊎ (length xs < n) → Queued scale value size stages xs n → (a : ℕ) (v : scale.Value) (b : ℕ) → a < size → stages a ≡ plain.waiting v b → ⊥
@@ -101,7 +100,7 @@ module _ {M : Type 0} (scale : Scale) (ordered : Ordered scale) (value : M → s
 
       waiting_after : (a : ℕ) (v : scale.Value) (d : ℕ) → a < size → after a ≡ plain.waiting v d → (x : Entry M) × Has (take n ys) x × (x.cell ≡ a) × (value x.value ≡ v)
       waiting_after a v d l s = elim (ℕ_discrete a e.cell) [
-        | yes same ↦ absurd (let k : plain.taken (value m) b ≡ plain.waiting v d = sym (ap after same ∙ put_here stages e.cell _) ∙ s in let z : ◌≡◌ {A = ℕ} 0 1 = cc in omega arith)
+        | yes same ↦ (let k : plain.taken (value m) b ≡ plain.waiting v d = sym (ap after same ∙ put_here stages e.cell _) ∙ s in cc)
         | no ne ↦ others a v d l (sym (put_else stages e.cell _ a ne) ∙ s) ne
       ]
 

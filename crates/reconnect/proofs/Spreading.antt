@@ -1,13 +1,15 @@
 -- A taken cell spreads to its neighbours, one direction after the other.
-use Rattle.std.proofs.Common.{◌≡◌, ℕ, suc, ◌<◌, Bool, true, false, cond, ◌||◌, eqb, List, Some, None, sym, refl, ap, ◌∙◌, subst, eq-eqb, ne_eqb}
+use Rattle.std.proofs.Common.{◌≡◌, ℕ, suc, ◌+◌, ◌<◌, ◌≤◌, Bool, true, false, cond, ◌||◌, eqb, List, length, Some, None, sym, refl, ap, ◌∙◌, subst, arith, eq-eqb, ne_eqb}
 use mathlib.Core.Path.{fun_ext}
 use native.Mathlib.Decide.{ℕ_discrete}
 use lib.Dec.{eqb-suc-zero}
-use borrow.Author.Tests.{both_ways}
 use Rattle.std.specs.List.{slice_get}
-use Rattle.model.specs.Lattice.{Lawful, is}
+use Rattle.model.specs.Ground.{Ground}
+use Rattle.model.specs.Lattice.{Lattice, Guide, Lawful, is}
+use Rattle.model.specs.Scale.{Scale}
 use Rattle.model.specs.Plain as plain
 use Rattle.model.specs.Plain.{World, Squares, put, is_rock_mark, is_unseen_mark, is_taken, towards, worth, spread}
+use Rattle.model.specs.Worlds.{over}
 use Rattle.model.proofs.Basics.Tables.{put_here, put_else}
 use Rattle.model.proofs.Basics.Counting.{count_same}
 use Rattle.model.proofs.Basics.Directions.{towards_only}
@@ -21,7 +23,8 @@ use Rattle.board.proofs.Showing.{stage_shown_in}
 use Rattle.board.proofs.Towards.{first_stays, none_earlier, first_new}
 use Rattle.reconnect.specs.declared.frontier.Taken.{Taken}
 use Rattle.reconnect.specs.Frontier.{Exact, taken_cells, Frontier}
-use Rattle.reconnect.specs.Reaching.{IsMeasure, reached_from}
+use Rattle.reconnect.specs.Reaching.{IsMeasure, reached_from, Reaches}
+use Rattle.reconnect.specs.Spreading.{Spreads}
 
 module _ (w : World) (lawful : Lawful w.lattice) (q : Squares w) (a : ℕ) where
   -- the board after the neighbours in the directions from 1 to n were reached
@@ -52,9 +55,6 @@ module _ (w : World) (lawful : Lawful w.lattice) (q : Squares w) (a : ℕ) where
       either : (c : Bool) (b : ℕ) → is_taken (cond c (q b) (spread w q a b)).stage ≡ is_taken (q b).stage
       either true b = refl
       either false b = spread_taken b
-
-  pub spread_begin : spread_by 0 ≡ q
-  spread_begin = refl
 
   -- a direction that leads nowhere
   pub spread_none : (n : ℕ) → w.lattice.beside a (suc n) ≡ None → spread_by n ≡ spread_by (suc n)
@@ -111,8 +111,8 @@ pub record Measured (w : World) {M : Type 0} (value : M → w.scale.Value) (kept
 
 module _ (w : World) {M : Type 0} (value : M → w.scale.Value) (kept : M → ℕ → Type 0) (number : ℕ) (board : List (Square M)) (queue : List (Entry M)) (n : ℕ) (q : Squares w) (a : ℕ) (r : M) where
   by_stage : (t : Stage M) → stage_shown value t ≡ (q a).stage → is_taken (stage_shown value t) ≡ true → Exact kept (taken_cells w.lattice.size q) t → IsMeasure w.scale value kept t r → Measured w value kept q a r
-  by_stage stage.Idle e k x is = absurd (both_ways false refl k)
-  by_stage (stage.Waiting m b) e k x is = absurd (both_ways false refl k)
+  by_stage stage.Idle e k x is = cc
+  by_stage (stage.Waiting m b) e k x is = cc
   by_stage (stage.Taken m b) e k x is = record { measures = ap value is ∙ ap (worth w) e; steps = x.0; early = x.1; exact = subst (λ z. kept z x.0) (sym is) x.2 }
 
   pub taken_measured :
@@ -121,3 +121,42 @@ module _ (w : World) {M : Type 0} (value : M → w.scale.Value) (kept : M → �
   taken_measured f l taken is =
       let e = stage_shown_in value number (q a) (slice_get board a) (f.shown a l) in
       by_stage (stage_at number board a) e (ap is_taken e ∙ taken) (f.exact a l) is
+
+-- the search while a taken cell spreads
+module _ (l : Lattice) (lawful : Lawful l) (scale : Scale) {M : Type 0} (value : M → scale.Value) (kept : M → ℕ → Type 0) (a number : ℕ) (board : List (Square M)) (queue : List (Entry M)) (n : ℕ) where
+  -- after the neighbours in the directions from 1 to k were reached
+  abbrev pub SpreadBy : ℕ → List (Square M) → List (Entry M) → ℕ → Type 0
+  SpreadBy k board' queue' n' =
+      (terrain : Ground) (aim : Guide) (q : Squares (over l terrain aim scale)) →
+      a < l.size → is_taken (q a).stage ≡ true → n + 8 ≤ length queue →
+      Frontier scale value kept l.size number board queue n q →
+      Frontier scale value kept l.size number board' queue' n' (spread_by (over l terrain aim scale) lawful q a k) × (n' ≤ n + k)
+
+  module _ (k : ℕ) (board' : List (Square M)) (queue' : List (Entry M)) (n' : ℕ) (so_far : SpreadBy k board' queue' n') where
+    -- a direction that leads nowhere
+    pub spread_past : l.beside a (suc k) ≡ None → SpreadBy (suc k) board' queue' n'
+    spread_past e terrain aim q inside taken room f =
+        let old = so_far terrain aim q inside taken room f in
+        (subst (Frontier scale value kept l.size number board' queue' n') (spread_none (over l terrain aim scale) lawful q a k e) old.0, omega (arith, old.1))
+
+    -- a neighbour that is reached
+    pub spread_to : (r : M) → IsMeasure scale value kept (stage_at number board a) r → (b : ℕ) → l.beside a (suc k) ≡ Some b → length queue' ≡ length queue → k < 8 →
+        (board'' : List (Square M)) (queue'' : List (Entry M)) (n'' : ℕ) →
+        ((terrain : Ground) (aim : Guide) → Reaches (over l terrain aim scale) value kept (record { cell = a; measure = r }) (l.cost (suc k)) b number board' board'' queue' queue'' n' n'') →
+        SpreadBy (suc k) board'' queue'' n''
+    spread_to r is b e long few board'' queue'' n'' reaches terrain aim q inside taken room f =
+        let w : World = over l terrain aim scale in
+        let old = so_far terrain aim q inside taken room f in
+        let exact = taken_measured w value kept number board queue n q a r f inside taken is in
+        let price = lawful.priced (suc k) in
+        let new =
+        reaches terrain aim (spread_by w lawful q a k) exact.steps (lawful.within a (suc k) b e).1 lawful.small price.0 price.1 exact.exact
+        (subst (λ z. exact.steps < z) (sym (taken_same w lawful q a k)) exact.early) (omega (arith, old.1, room, long)) old.0 in
+        (subst (Frontier scale value kept l.size number board'' queue'' n'') (spread_more w lawful q a value r exact.measures k b e) new.0, omega (arith, new.1, old.1))
+
+    -- after all eight
+    pub spread_all : k ≡ 8 → Spreads l scale value kept a number board board' queue queue' n n'
+    spread_all all terrain aim q inside taken room f =
+        let w : World = over l terrain aim scale in
+        let old = so_far terrain aim q inside taken room f in
+        (subst (Frontier scale value kept l.size number board' queue' n') (ap (spread_by w lawful q a) all ∙ spread_end w lawful q a) old.0, omega (arith, old.1))

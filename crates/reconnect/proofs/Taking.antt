@@ -1,15 +1,14 @@
 -- A take, in memory and in the plain drive.
-use Rattle.std.proofs.Common.{◌≡◌, ℕ, suc, ◌+◌, ◌-◌, ◌*◌, ◌<◌, ◌≤◌, true, false, List, length, Some, None, Option, sym, refl, ap, ◌∙◌, subst, arith}
+use Rattle.std.proofs.Common.{◌≡◌, ℕ, suc, ◌+◌, ◌-◌, ◌*◌, ◌<◌, ◌≤◌, true, List, length, Some, None, Option, sym, refl, ap, ◌∙◌, subst, arith}
 use mathlib.Core.Path.{fun_ext}
 use native.Mathlib.Decide.{ℕ_discrete}
-use borrow.Author.Tests.{both_ways}
 use Rattle.std.specs.List.{slice_get}
 use Rattle.model.specs.declared.Phase.TheVariants as phase
 use Rattle.model.specs.Scale.{Ordered}
 use Rattle.model.specs.Plain as plain
 use Rattle.model.specs.Plain.{World, State, Squares, resting, put, is_taken, worth, from, waits, least, with_search, as_taken, take}
 use Rattle.model.proofs.Basics.Tables.{put_here, put_else}
-use Rattle.model.proofs.Basics.Tests.{same_some, none_some}
+use Rattle.model.proofs.Basics.Tests.{same_some}
 use Rattle.model.proofs.Basics.Counting.{count_more}
 use Rattle.model.proofs.Search.Steps.{closed, took}
 use Rattle.measure.specs.declared.queue.Entry.{Entry}
@@ -17,18 +16,13 @@ use Rattle.board.specs.declared.square.Square.{Square}
 use Rattle.board.specs.declared.square.Stage.{Stage}
 use Rattle.board.specs.declared.square.Stage.TheVariants as stage
 use Rattle.board.specs.Board.{changed, with_stage, stage_at, stage_shown, Shown}
-use Rattle.board.proofs.Showing.{stage_shown_in, shown_changed, staged_shown, stage_set, stage_else, numbers_kept}
-use Rattle.reconnect.specs.declared.state.Walk.TheVariants as walk
+use Rattle.board.proofs.Showing.{stage_shown_in, shown_changed, staged_shown, numbers_kept}
 use Rattle.reconnect.specs.declared.frontier.Chosen.{Chosen}
 use Rattle.reconnect.specs.Frontier.{Exact, taken_cells, Queued}
 use Rattle.reconnect.specs.Reaching.{StagesAs, Chooses}
 use Rattle.reconnect.specs.Represents.{Memory, spread_cells, Represents}
 use Rattle.reconnect.proofs.Leasts.{First, least_none, least_first}
-use Rattle.reconnect.proofs.Reaching.{there}
-
--- two phases that are told apart
-pub not_searching : phase.Shut ≡ phase.Searching → ⊥
-not_searching e = let z : ◌≡◌ {A = ℕ} 0 1 = cc in omega arith
+use Rattle.reconnect.proofs.Reaching.{after_setting}
 
 -- what is exact stays so when more cells are taken
 exact_more : {M : Type 0} (kept : M → ℕ → Type 0) (n : ℕ) (t : Stage M) → Exact kept n t → Exact kept (suc n) t
@@ -43,21 +37,21 @@ module _ (w : World) (ordered : Ordered w.scale) where
     where
       go : (o : Option ℕ) → o ≡ None → (elim o as (λ x. State w × plain.Course) [ None ↦ closed w s | Some a ↦ took w s a ]) ≡ closed w s
       go None e = refl
-      go (Some a) e = absurd (none_some (sym e))
+      go (Some a) e = cc
 
   take_some : (s : State w) (a : ℕ) → least w s.squares w.lattice.size ≡ Some a → take w s ≡ took w s a
   unfolding take
   take_some s a e = go (least w s.squares w.lattice.size) e
     where
       go : (o : Option ℕ) → o ≡ Some a → (elim o as (λ x. State w × plain.Course) [ None ↦ closed w s | Some b ↦ took w s b ]) ≡ took w s a
-      go None e = absurd (none_some e)
+      go None e = cc
       go (Some b) e = ap (took w s) (same_some e)
 
   -- a stage that waits
   waiting_is : (t : plain.Stage w.scale.Value) → waits w t ≡ true → t ≡ plain.waiting (worth w t) (from w t)
-  waiting_is plain.idle e = absurd (both_ways false refl e)
+  waiting_is plain.idle e = cc
   waiting_is (plain.waiting v b) e = refl
-  waiting_is (plain.taken v b) e = absurd (both_ways false refl e)
+  waiting_is (plain.taken v b) e = cc
 
   module _ {M : Type 0} (value : M → w.scale.Value) (kept : M → ℕ → Type 0) (m : Memory M) (s : State w) (searching : s.phase ≡ phase.Searching) (rest : s.walk ≡ resting) (r : Represents w value kept m s) where
     abbrev size : ℕ
@@ -84,8 +78,8 @@ module _ (w : World) (ordered : Ordered w.scale) where
         shown = r.shown;
         numbered = r.numbered;
         room = omega (arith, r.room);
-        frontier = λ e. absurd (not_searching e);
-        few = λ e. absurd (not_searching e);
+        frontier = λ e. cc;
+        few = λ e. cc;
       }
 
     -- a cell is chosen: it is taken
@@ -130,14 +124,10 @@ module _ (w : World) (ordered : Ordered w.scale) where
 
       exact_new : (a : ℕ) → a < size → Exact kept (taken_cells size new) (stage_at number board a)
       exact_new a l =
+          let old = subst (Exact kept (taken_cells size s.squares)) ch.waits ((r.frontier searching).exact x.cell ch.inside) in
           subst (λ c. Exact kept c (stage_at number board a)) (sym one_more)
-          (elim (ℕ_discrete a x.cell) [
-            | yes e ↦
-                let y = there value number (s.squares x.cell) (slice_get m.board x.cell) (r.shown x.cell ch.inside) in
-                let old = subst (Exact kept (taken_cells size s.squares)) ch.waits ((r.frontier searching).exact x.cell ch.inside) in
-                subst (Exact kept (suc (taken_cells size s.squares))) (sym (ap (stage_at number board) e ∙ stage_set number set_to m.board x.cell y.0 y.1)) (old.0, omega (arith, old.1), old.2)
-            | no ne ↦ subst (Exact kept (suc (taken_cells size s.squares))) (sym (stage_else number (with_stage number set_to) m.board x.cell a ne)) (exact_more kept _ (stage_at number m.board a) ((r.frontier searching).exact a l))
-          ])
+          (after_setting value number (Exact kept (suc (taken_cells size s.squares))) set_to m.board x.cell (s.squares x.cell) (r.shown x.cell ch.inside) (old.0, omega (arith, old.1), old.2) a
+          (λ ne. exact_more kept _ (stage_at number m.board a) ((r.frontier searching).exact a l)))
 
       same_stages : put stages x.cell (plain.taken (value x.measure) x.back) ≡ (λ a. (new a).stage)
       same_stages = fun_ext (λ a. elim (ℕ_discrete a x.cell) [
@@ -148,7 +138,7 @@ module _ (w : World) (ordered : Ordered w.scale) where
       ])
 
       abbrev after : Memory M
-      after = record { search = record { number = number; waiting = n; walk = walk.Walking x.cell x.cell }; board = board; queue = queue }
+      after = record { search = record { number = number; waiting = n; walk = Some (record { taken = x.cell; at = x.cell }) }; board = board; queue = queue }
 
       few_new : n ≤ m.search.waiting → n ≤ 8 * (taken_cells size new - 1) + 1
       few_new fewer =

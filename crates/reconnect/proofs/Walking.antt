@@ -1,5 +1,5 @@
 -- A step of a walk, in memory and in the plain drive.
-use Rattle.std.proofs.Common.{◌≡◌, ℕ, ◌+◌, ◌-◌, ◌*◌, ◌<◌, ◌≤◌, Bool, true, false, cond, eqb, ◌⊎◌, List, length, Some, None, Option, sym, refl, ap, ◌∙◌, subst, inl, inr, arith, eq-eqb, ne_eqb, eqb-true}
+use Rattle.std.proofs.Common.{◌≡◌, ℕ, ◌+◌, ◌-◌, ◌*◌, ◌<◌, ◌≤◌, Bool, true, false, cond, eqb, ◌⊎◌, List, length, Some, None, Option, sym, refl, ap, ◌∙◌, subst, ⊎_elim, inl, inr, arith, eq-eqb, ne_eqb, eqb-true}
 use mathlib.Core.Path.{fun_ext}
 use borrow.Author.Tests.{eqb-false}
 use Rattle.std.specs.List.{slice_get}
@@ -9,7 +9,7 @@ use Rattle.model.specs.Plain as plain
 use Rattle.model.specs.Plain.{World, State, Squares, Walk, resting, walking, put, is_taken, worth, next, spread, retraced, with_search, take, walk_on, fail_walk, step_of, think_step}
 use Rattle.model.specs.Promise.{Fit, Reached}
 use Rattle.model.proofs.Basics.Tables.{put_part}
-use Rattle.model.proofs.Basics.Tests.{same_some, none_some}
+use Rattle.model.proofs.Basics.Tests.{same_some}
 use Rattle.model.proofs.Basics.Counting.{count_same, count_fewer, count_at_most}
 use Rattle.model.proofs.Search.Reach.{taken_live}
 use Rattle.model.proofs.Search.Sought.{WalkInside, Sought}
@@ -19,7 +19,6 @@ use Rattle.measure.specs.declared.queue.Entry.{Entry}
 use Rattle.board.specs.declared.square.Square.{Square}
 use Rattle.board.specs.Board.{changed, with_paint, pointer_at, paint_at, stage_at, Shown}
 use Rattle.board.proofs.Showing.{pointer_shown, paint_shown, shown_changed, stage_kept, numbers_kept}
-use Rattle.reconnect.specs.declared.state.Walk.TheVariants as walk
 use Rattle.reconnect.specs.Frontier.{Numbered, Exact, taken_cells, Queued, Frontier}
 use Rattle.reconnect.specs.Retracing.{Homewards}
 use Rattle.reconnect.specs.Walking.{unpainted}
@@ -27,21 +26,21 @@ use Rattle.reconnect.specs.Represents.{Memory, spread_cells, Represents}
 use Rattle.reconnect.proofs.Spreading.{taken_same, spread_end}
 
 -- what it says that a cell is not painted, or that there is none that is not
-pub unpainted_some : {M : Type 0} (board : List (Square M)) (n : ℕ) (o : Option ℕ) (c : ℕ) → Some c ≡ unpainted board n o → (o ≡ Some c) × (paint_at board c ≡ n → ⊥)
-unpainted_some board n None c e = absurd (none_some (sym e))
+unpainted_some : {M : Type 0} (board : List (Square M)) (n : ℕ) (o : Option ℕ) (c : ℕ) → Some c ≡ unpainted board n o → (o ≡ Some c) × (paint_at board c ≡ n → ⊥)
+unpainted_some board n None c e = cc
 unpainted_some board n (Some d) c e = by (eqb (paint_at board d) n) refl e
   where
     by : (t : Bool) → eqb (paint_at board d) n ≡ t → Some c ≡ cond t None (Some d) → (Some d ≡ Some c) × (paint_at board c ≡ n → ⊥)
-    by true q e = absurd (none_some (sym e))
+    by true q e = cc
     by false q e = (sym e, λ p. eqb-false (paint_at board d) n q (ap (paint_at board) (sym (same_some e)) ∙ p))
 
-pub unpainted_none : {M : Type 0} (board : List (Square M)) (n : ℕ) (o : Option ℕ) → None ≡ unpainted board n o → (o ≡ None) ⊎ ((c : ℕ) × (o ≡ Some c) × (paint_at board c ≡ n))
+unpainted_none : {M : Type 0} (board : List (Square M)) (n : ℕ) (o : Option ℕ) → None ≡ unpainted board n o → (o ≡ None) ⊎ ((c : ℕ) × (o ≡ Some c) × (paint_at board c ≡ n))
 unpainted_none board n None e = inl refl
 unpainted_none board n (Some d) e = by (eqb (paint_at board d) n) refl e
   where
     by : (t : Bool) → eqb (paint_at board d) n ≡ t → None ≡ cond t None (Some d) → (Some d ≡ None) ⊎ ((c : ℕ) × (Some d ≡ Some c) × (paint_at board c ≡ n))
     by true q e = inr (d, refl, eqb-true (paint_at board d) n q)
-    by false q e = absurd (none_some e)
+    by false q e = cc
 
 module _ (w : World) where
   -- which step the plain drive makes
@@ -73,15 +72,15 @@ module _ (w : World) where
   unfolding walk_on fail_walk
   not_at_goal s a b n = ap (λ t. cond t (joined w s a) (onwards s a b (next w (painting w s b) b))) (ne_eqb b w.guide.goal n)
 
-  pub walks : (s : State w) (a b c : ℕ) → (b ≡ w.guide.goal → ⊥) → next w (painting w s b) b ≡ Some c → ((painting w s b c).paint ≡ s.searches → ⊥) → walk_on w s a b ≡ walked w s a b c
+  walks : (s : State w) (a b c : ℕ) → (b ≡ w.guide.goal → ⊥) → next w (painting w s b) b ≡ Some c → ((painting w s b c).paint ≡ s.searches → ⊥) → walk_on w s a b ≡ walked w s a b c
   walks s a b c n e f =
       not_at_goal s a b n ∙ ap (onwards s a b) e
       ∙ ap (λ t. cond t (stopped w s a b) (walked w s a b c)) (ne_eqb (painting w s b c).paint s.searches f)
 
-  pub stops_nowhere : (s : State w) (a b : ℕ) → (b ≡ w.guide.goal → ⊥) → next w (painting w s b) b ≡ None → walk_on w s a b ≡ stopped w s a b
+  stops_nowhere : (s : State w) (a b : ℕ) → (b ≡ w.guide.goal → ⊥) → next w (painting w s b) b ≡ None → walk_on w s a b ≡ stopped w s a b
   stops_nowhere s a b n e = not_at_goal s a b n ∙ ap (onwards s a b) e
 
-  pub stops_painted : (s : State w) (a b c : ℕ) → (b ≡ w.guide.goal → ⊥) → next w (painting w s b) b ≡ Some c → (painting w s b c).paint ≡ s.searches → walk_on w s a b ≡ stopped w s a b
+  stops_painted : (s : State w) (a b c : ℕ) → (b ≡ w.guide.goal → ⊥) → next w (painting w s b) b ≡ Some c → (painting w s b c).paint ≡ s.searches → walk_on w s a b ≡ stopped w s a b
   stops_painted s a b c n e f =
       not_at_goal s a b n ∙ ap (onwards s a b) e
       ∙ ap (λ t. cond t (stopped w s a b) (walked w s a b c)) (eq-eqb (painting w s b c).paint s.searches f)
@@ -122,10 +121,10 @@ module _ (w : World) where
         (shown_changed value number w.lattice.size m.board s.squares b (with_paint number) (λ x. plain.with_paint w x number) (λ x. refl) r.shown)
 
     -- the pointer of that cell, and the paint of a cell
-    pub next_painted : b < w.lattice.size → w.lattice.beside b (pointer_at board b) ≡ next w painted b
+    next_painted : b < w.lattice.size → w.lattice.beside b (pointer_at board b) ≡ next w painted b
     next_painted l = ap (w.lattice.beside b) (pointer_shown value number (painted b) (slice_get board b) (shown_painted b l))
 
-    pub paint_painted : (c : ℕ) → c < w.lattice.size → paint_at board c ≡ (painted c).paint
+    paint_painted : (c : ℕ) → c < w.lattice.size → paint_at board c ≡ (painted c).paint
     paint_painted c l = paint_shown value number (painted c) (slice_get board c) (shown_painted c l)
 
     numbered_painted : Numbered w.lattice.size number board
@@ -152,8 +151,25 @@ module _ (w : World) where
     few : m.search.waiting ≤ 8 * (taken_cells w.lattice.size s.squares - 1) + 1
     few = subst (λ k. m.search.waiting ≤ 8 * spread_cells k (taken_cells w.lattice.size s.squares) + 1) under-way (r.few searching)
 
+    -- which step it is, by where the pointer leads
+    module _ (lawful : Lawful w.lattice) (inside : b < w.lattice.size) (away : b ≡ w.guide.goal → ⊥) where
+      abbrev lead : Option ℕ
+      lead = w.lattice.beside b (pointer_at board b)
+
+      pub goes : (c : ℕ) → Some c ≡ unpainted board number lead → walk_on w s a b ≡ walked w s a b c
+      goes c e =
+          let said = unpainted_some board number lead c e in
+          walks s a b c away (sym (next_painted inside) ∙ said.0) (λ same. said.1 (paint_painted c (lawful.within b _ c said.0).1 ∙ same ∙ sym r.number))
+
+      pub stops : None ≡ unpainted board number lead → walk_on w s a b ≡ stopped w s a b
+      stops e =
+          ⊎_elim
+          (λ none. stops_nowhere s a b away (sym (next_painted inside) ∙ none))
+          (λ some. stops_painted s a b some.0 away (sym (next_painted inside) ∙ some.1) (sym (paint_painted some.0 (lawful.within b _ some.0 some.1).1) ∙ some.2 ∙ r.number))
+          (unpainted_none board number lead e)
+
     -- the walk goes on to another cell
-    pub walked_represents : (c : ℕ) → Represents w value kept (record { search = record { number = number; waiting = m.search.waiting; walk = walk.Walking a c }; board = board; queue = m.queue }) (walked w s a b c).0
+    pub walked_represents : (c : ℕ) → Represents w value kept (record { search = record { number = number; waiting = m.search.waiting; walk = Some (record { taken = a; at = c }) }; board = board; queue = m.queue }) (walked w s a b c).0
     walked_represents c = record {
       number = r.number;
       walk = refl;
@@ -177,7 +193,7 @@ module _ (w : World) where
 
       pub stopped_represents : (board' : List (Square M)) (queue : List (Entry M)) (n : ℕ) → length queue ≡ length m.queue → (Numbered w.lattice.size number board → Numbered w.lattice.size number board') → n ≤ m.search.waiting + 8 →
           Frontier w.scale value kept w.lattice.size number board' queue n (spread w painted a) →
-          Represents w value kept (record { search = record { number = number; waiting = n; walk = walk.Resting }; board = board'; queue = queue }) (stopped w s a b).0
+          Represents w value kept (record { search = record { number = number; waiting = n; walk = None }; board = board'; queue = queue }) (stopped w s a b).0
       stopped_represents board' queue n long numbers more f = record {
         number = r.number;
         walk = refl;

@@ -1,5 +1,5 @@
 -- When the memory of a search stands for a state of the plain drive.
-use Rattle.std.specs.Prelude.{◌≡◌, ℕ, ◌+◌, ◌-◌, ◌*◌, ◌≤◌, List, length}
+use Rattle.std.specs.Prelude.{◌≡◌, ℕ, ◌+◌, ◌-◌, ◌*◌, ◌≤◌, List, length, Some, None, Option}
 use Rattle.model.specs.declared.Phase.TheVariants as phase
 use Rattle.model.specs.Plain as plain
 use Rattle.model.specs.Plain.{World, State}
@@ -8,7 +8,6 @@ use Rattle.board.specs.declared.square.Square.{Square}
 use Rattle.board.specs.Board.{Shown}
 use Rattle.reconnect.specs.declared.state.Search.{Search}
 use Rattle.reconnect.specs.declared.state.Walk.{Walk}
-use Rattle.reconnect.specs.declared.state.Walk.TheVariants as walk
 use Rattle.reconnect.specs.Frontier.{Numbered, taken_cells, Frontier}
 
 -- what a search works on: its own numbers, the board and the queue
@@ -18,9 +17,9 @@ pub record Memory (M : Type 0) : Type 0 where
   pub queue : List (Entry M)
 
 -- a walk as the plain drive has it
-abbrev pub walk_shown : Walk → plain.Walk
-walk_shown walk.Resting = plain.resting
-walk_shown (walk.Walking a b) = plain.walking a b
+abbrev pub walk_shown : Option Walk → plain.Walk
+walk_shown None = plain.resting
+walk_shown (Some k) = plain.walking k.taken k.at
 
 -- of so many taken cells, those that have spread: all but the one from which a walk is under way
 abbrev pub spread_cells : plain.Walk → ℕ → ℕ

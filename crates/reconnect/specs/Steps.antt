@@ -1,5 +1,5 @@
 -- A step of a search does what a step of thinking of the plain drive does.
-use Rattle.std.specs.Prelude.{◌≡◌, ℕ, true}
+use Rattle.std.specs.Prelude.{◌≡◌, ℕ, true, Some, None, Option}
 use Rattle.model.specs.declared.Phase.TheVariants as phase
 use Rattle.model.specs.Lattice.{Lattice, Guide}
 use Rattle.model.specs.Ground.{Ground}
@@ -8,22 +8,22 @@ use Rattle.model.specs.Plain as plain
 use Rattle.model.specs.Plain.{World, State, resting, walking, is_taken, worth, retraced, with_search, take, walk_on, think_step}
 use Rattle.model.specs.Promise.{Fit, Reached}
 use Rattle.model.specs.Worlds.{over}
-use Rattle.reconnect.specs.declared.state.Course.{Course}
-use Rattle.reconnect.specs.declared.state.Course.TheVariants as course
+use Rattle.reconnect.specs.declared.state.Outcome.{Outcome}
+use Rattle.reconnect.specs.declared.state.Outcome.TheVariants.{Joined, Shut}
 use Rattle.reconnect.specs.Represents.{Memory, Represents}
 use Rattle.reconnect.specs.Retracing.{Homewards}
 
 -- how a step leaves the search, as the plain drive has it
-abbrev pub course_shown : Course → plain.Course
-course_shown course.Going = plain.going
-course_shown (course.Joined x y) = plain.join x y
-course_shown course.Shut = plain.close
+abbrev pub course_shown : Option Outcome → plain.Course
+course_shown None = plain.going
+course_shown (Some (Joined x y)) = plain.join x y
+course_shown (Some Shut) = plain.close
 
 -- a step comes to what one of the plain drive does: the search is left alike, and the memory stands for the state after it
-abbrev pub ComesTo : (w : World) {M : Type 0} (value : M → w.scale.Value) (kept : M → ℕ → Type 0) → Course → Memory M → State w × plain.Course → Type 0
+abbrev pub ComesTo : (w : World) {M : Type 0} (value : M → w.scale.Value) (kept : M → ℕ → Type 0) → Option Outcome → Memory M → State w × plain.Course → Type 0
 ComesTo w value kept c after r = (course_shown c ≡ r.1) × Represents w value kept after r.0
 
-module _ (scale : Scale) {M : Type 0} (value : M → scale.Value) (kept : M → ℕ → Type 0) (c : Course) (before after : Memory M) where
+module _ (scale : Scale) {M : Type 0} (value : M → scale.Value) (kept : M → ℕ → Type 0) (c : Option Outcome) (before after : Memory M) where
   -- a take, where no walk is under way
   abbrev pub TakesAs : Type 0
   TakesAs =

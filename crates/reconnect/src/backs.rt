@@ -34,7 +34,7 @@ impl Search {
     }
 }
 
-// The back of a stage; an idle cell has none.
+// The back of a stage; an idle cell has none. A match, as a stage is no option: two of its cases have one.
 fn back_of<M: Copy>(stage: Stage<M>) -> u32
     ensures { result ≡ back_in stage }
 {
@@ -48,20 +48,8 @@ fn back_of<M: Copy>(stage: Stage<M>) -> u32
 fn towards<L: Lattice>(lattice: &L, from: u32, to: u32) -> u8
     ensures { result ≡ first_direction 8 (λ d. is ((L.Lattice.grid lattice.now).beside from d) to) }
 {
-    for direction in 1..=8 {
-        if leads(lattice, from, direction, to) {
-            return direction;
-        }
-    }
-    0
-}
-
-// Whether a direction leads from one cell to another.
-fn leads<L: Lattice>(lattice: &L, from: u32, direction: u8, to: u32) -> bool
-    ensures { result ≡ is ((L.Lattice.grid lattice.now).beside from direction) to }
-{
-    match lattice.beside(from, direction) {
-        Some(cell) => cell == to,
-        None => false,
-    }
+    // Half open, as std's lemma on `find` has it.
+    (1..9u8)
+        .find(|direction| lattice.beside(from, *direction) == Some(to))
+        .unwrap_or(0)
 }

@@ -3,7 +3,7 @@ ghost use Rattle.std.specs.Prelude.{◌≡◌};
 ghost use Rattle.reconnect.specs.Represents.{Memory};
 ghost use Rattle.reconnect.specs.Beginning.{unbegun, Begins};
 
-use crate::state::{Search, Walk};
+use crate::state::Search;
 use board::square::{Square, Stage, set_stage};
 use measure::Measure;
 use measure::queue::{Entry, push};
@@ -16,7 +16,7 @@ impl Search {
         Search {
             number: 0,
             waiting: 0,
-            walk: Walk::Resting,
+            walk: None,
         }
     }
 
@@ -25,7 +25,7 @@ impl Search {
         ensures { Begins M.Measure.scale M.Measure.value M.Measure.kept cell (record { search = self.old; board = board.old; queue = queue.old }) (record { search = self.new; board = board.new; queue = queue.new }) }
     {
         self.number = self.number.saturating_add(1);
-        self.walk = Walk::Resting;
+        self.walk = None;
         let value = M::zero();
         set_stage(board, cell, self.number, Stage::Waiting(value, cell));
         self.waiting = push(queue, 0, Entry { value, cell }).unwrap_or(0);

@@ -2,7 +2,7 @@
 ghost use Rattle.std.specs.Prelude.{◌≡◌, ℕ, ◌≤◌};
 ghost use Rattle.model.specs.Ground.{Ground};
 ghost use Rattle.model.specs.Lattice.{Lattice as Grid, Guide as Aim};
-ghost use Rattle.model.specs.Plain.{is_rock_mark, is_unseen_mark, Stage as PlainStage};
+ghost use Rattle.model.specs.Plain.{Stage as PlainStage};
 ghost use Rattle.model.specs.Worlds.{over};
 ghost use Rattle.board.specs.Board.{stage_shown};
 ghost use Rattle.reconnect.specs.Frontier.{Numbered, Queued};
@@ -29,6 +29,7 @@ pub(crate) struct Taken<M> {
     pub(crate) measure: M,
 }
 
+// `rest` and `numbered` stay clauses of each: number and count as parameters of their own are longer, and the board is lent.
 impl Search {
     // The waiting cell of least measure, the lowest among equals. Its entry leaves the queue, and outdated ones before it.
     pub(crate) fn choose<M: Measure>(
@@ -68,8 +69,8 @@ impl Search {
         ensures reaches { (l : Grid) (terrain : Ground) (aim : Aim) → Reaches (over l terrain aim M.Measure.scale) M.Measure.value M.Measure.kept from cost cell self.old.number board.old board.new queue.old queue.new self.old.waiting self.new.waiting }
     {
         let mark = mark(board, cell);
-        let reached = from.measure.extend(cost, is_unseen(mark));
-        if is_rock(mark) || !improved_by(stage_in(board, cell, self.number), reached) {
+        let reached = from.measure.extend(cost, mark == Mark::Unseen);
+        if mark == Mark::Rock || !improved_by(stage_in(board, cell, self.number), reached) {
             return;
         }
         set_stage(board, cell, self.number, Stage::Waiting(reached, from.cell));
@@ -99,23 +100,5 @@ pub(crate) fn measure_of<M: Measure>(stage: Stage<M>) -> M
     match stage {
         Stage::Idle => M::zero(),
         Stage::Waiting(measure, _) | Stage::Taken(measure, _) => measure,
-    }
-}
-
-fn is_rock(mark: Mark) -> bool
-    ensures { result ≡ is_rock_mark mark }
-{
-    match mark {
-        Mark::Rock => true,
-        Mark::Unseen | Mark::Passable => false,
-    }
-}
-
-fn is_unseen(mark: Mark) -> bool
-    ensures { result ≡ is_unseen_mark mark }
-{
-    match mark {
-        Mark::Unseen => true,
-        Mark::Passable | Mark::Rock => false,
     }
 }

@@ -9,7 +9,7 @@ ghost use Rattle.measure.specs.declared.queue.Entry.{Entry as QueueEntry};
 ghost use Rattle.reconnect.specs.Steps.{TakesAs, JoinsAs, WalksAs, StepsAs};
 
 use crate::frontier::{Taken, measure_of};
-use crate::state::{Course, Search, Walk};
+use crate::state::{Outcome, Search, Walk};
 use board::around::next;
 use board::square::{Square, Stage, paint, set_paint, set_stage, stage_in};
 use floor::{Guide, Lattice};
@@ -17,37 +17,41 @@ use measure::Measure;
 use measure::queue::Entry;
 
 impl Search {
-    // One step: a walk step if a walk is under way, else a take.
+    // One step: a walk step if a walk is under way, else a take. Where it answers nothing the search goes on.
     pub fn step<G: Guide, M: Measure>(
         &mut self,
         guide: &G,
         home: u32,
         board: &mut [Square<M>],
         queue: &mut [Entry<M>],
-    ) -> Course
+    ) -> Option<Outcome>
         ensures { StepsAs M.Measure.scale M.Measure.value M.Measure.kept result (record { search = self.old; board = board.old; queue = queue.old }) (record { search = self.new; board = board.new; queue = queue.new }) (G.Lattice.grid guide.now) home (G.Guide.aim guide.now) }
     {
         match self.walk {
-            Walk::Resting => self.take(board, queue),
-            Walk::Walking { taken, at } => self.walk_on(guide, home, taken, at, board, queue),
+            None => self.take(board, queue),
+            Some(walk) => self.walk_on(guide, home, walk, board, queue),
         }
     }
 
     // Takes the first waiting cell, from which a walk starts; where none waits the search is shut.
-    fn take<M: Measure>(&mut self, board: &mut [Square<M>], queue: &mut [Entry<M>]) -> Course
+    fn take<M: Measure>(
+        &mut self,
+        board: &mut [Square<M>],
+        queue: &mut [Entry<M>],
+    ) -> Option<Outcome>
         ensures { TakesAs M.Measure.scale M.Measure.value M.Measure.kept result (record { search = self.old; board = board.old; queue = queue.old }) (record { search = self.new; board = board.new; queue = queue.new }) }
     {
         let Some(chosen) = self.choose(board, queue) else {
-            return Course::Shut;
+            return Some(Outcome::Shut);
         };
         let cell = chosen.cell;
         let taken = Stage::Taken(chosen.measure, chosen.back);
         set_stage(board, cell, self.number, taken);
-        self.walk = Walk::Walking {
+        self.walk = Some(Walk {
             taken: cell,
             at: cell,
-        };
-        Course::Going
+        });
+        None
     }
 
     // A step of the walk from a taken cell: at the goal it joins; elsewhere it paints the cell where it stands, and goes on along
@@ -56,25 +60,24 @@ impl Search {
         &mut self,
         guide: &G,
         home: u32,
-        taken: u32,
-        at: u32,
+        walk: Walk,
         board: &mut [Square<M>],
         queue: &mut [Entry<M>],
-    ) -> Course
-        ensures { WalksAs M.Measure.scale M.Measure.value M.Measure.kept result (record { search = self.old; board = board.old; queue = queue.old }) (record { search = self.new; board = board.new; queue = queue.new }) (G.Lattice.grid guide.now) home (G.Guide.aim guide.now) taken at }
+    ) -> Option<Outcome>
+        ensures { WalksAs M.Measure.scale M.Measure.value M.Measure.kept result (record { search = self.old; board = board.old; queue = queue.old }) (record { search = self.new; board = board.new; queue = queue.new }) (G.Lattice.grid guide.now) home (G.Guide.aim guide.now) walk.taken walk.at }
     {
-        if at == guide.goal() {
-            return self.join(guide, home, taken, board);
+        if walk.at == guide.goal() {
+            return self.join(guide, home, walk.taken, board);
         }
-        set_paint(board, at, self.number);
-        match self.unpainted_next(guide, at, board) {
-            Some(next) => self.walk = Walk::Walking { taken, at: next },
+        set_paint(board, walk.at, self.number);
+        match self.unpainted_next(guide, walk.at, board) {
+            Some(at) => self.walk = Some(Walk { at, ..walk }),
             None => {
-                self.walk = Walk::Resting;
-                self.spread(guide, taken, board, queue);
+                self.walk = None;
+                self.spread(guide, walk.taken, board, queue);
             }
         }
-        Course::Going
+        None
     }
 
     // Where the pointer of a cell leads, unless this search has painted that cell.
@@ -86,10 +89,7 @@ impl Search {
     ) -> Option<u32>
         ensures { result ≡ unpainted board.now self.now.number ((L.Lattice.grid lattice.now).beside cell (pointer_at board.now cell)) }
     {
-        match next(lattice, board, cell) {
-            Some(next) if paint(board, next) != self.number => Some(next),
-            _ => None,
-        }
+        next(lattice, board, cell).filter(|next| paint(board, *next) != self.number)
     }
 
     // Joins the tree at a taken cell: the pointers from `home` lead there.
@@ -99,13 +99,13 @@ impl Search {
         home: u32,
         taken: u32,
         board: &mut [Square<M>],
-    ) -> Course
+    ) -> Option<Outcome>
         ensures { (queue : List (QueueEntry M)) → JoinsAs M.Measure.scale M.Measure.value M.Measure.kept result (record { search = self.old; board = board.old; queue = queue }) (record { search = self.new; board = board.new; queue = queue }) (L.Lattice.grid lattice.now) home taken }
     {
         let (first, second) = measure_of(stage_in(board, taken, self.number)).shown();
         self.retrace(lattice, home, taken, board);
-        self.walk = Walk::Resting;
-        Course::Joined(first, second)
+        self.walk = None;
+        Some(Outcome::Joined(first, second))
     }
 
     // The taken cell spreads: each of its neighbours is reached from it.
@@ -124,8 +124,7 @@ impl Search {
             cell: taken,
             measure: measure_of(stage_in(board, taken, self.number)),
         };
-        for bit in 0..8u8 {
-            let direction = bit + 1;
+        for direction in 1..=8 {
             if let Some(cell) = lattice.beside(taken, direction) {
                 self.reach(from, lattice.cost(direction), cell, board, queue);
             }

@@ -69,11 +69,8 @@ reads_opened t s e =
     let h = passed (record_heading first.0) _ first.2 in
     let second = passed (in_text (due_line 2 (after_line t))) _ h.2 in
     let start = passed (start_row h.0 second.0) _ second.2 in
-    let there = taken h.0 start.2 in
+    let there : record { heading = h.0; rest = after_line (after_line t); line = 3; row = 0; length = 0 } ≡ s = cc (start.2) in
     record { rows = []; stands = subst (λ (x : Standing). x ≡ behind x.heading [] x.line x.rest) there refl; same = sym (on _ e) }
-  where
-    taken : (h : Heading) → ◌≡◌ {A = Result Standing RecordFault} (Ok (record { heading = h; rest = after_line (after_line t); line = 3; row = 0; length = 0 })) (Ok s) → record { heading = h; rest = after_line (after_line t); line = 3; row = 0; length = 0 } ≡ s
-    taken h q = cc
 
 -- the next line
 module _ (t : List ℕ) (s : Standing) (r : Reads t s) where
@@ -105,3 +102,6 @@ unfolding item_of
 less_left s x e =
     let d = passed (in_text (due_line s.line s.rest)) _ (sym e) in
     due_shorter s.line s.rest d.0 (sym (lifted Text (due_line s.line s.rest) d.1))
+
+-- the reading of a whole record, from its opening to its closing line
+pub ruleset reading = (unopened, reads_opened, reads_row, reads_wrong, less_left)

@@ -1,12 +1,12 @@
 -- A text is accepted as a record exactly if it is the text of that record: both ways, line by line.
-use Rattle.std.proofs.Common.{◌≡◌, ℕ, zero, suc, ◌+◌, ◌^◌, ◌<◌, eqb, List, [], ◌∷◌, ◌++◌, length, Some, None, Ok, codes, Option, Result, sym, refl, ap, ◌∙◌, subst, inr, arith}
+use Rattle.std.proofs.Common.{◌≡◌, ℕ, zero, suc, ◌+◌, ◌^◌, ◌<◌, eqb, List, [], ◌∷◌, ◌++◌, length, Some, None, Ok, codes, Option, sym, refl, ap, ◌∙◌, subst, inr, arith}
 use Rattle.std.proofs.lemmas.List.{append-nil, append_assoc, length-append, length_push}
 use Rattle.std.proofs.lemmas.Bool.{cond-false}
 use Rattle.texts.specs.declared.heading.Heading.{Heading}
 use Rattle.texts.specs.Fields.{column, field_text, fields_text, Fit, written_line}
 use Rattle.texts.specs.FirstLines.{heading_of}
 use Rattle.texts.specs.Headings.{heading_numbers, heading_check}
-use Rattle.texts.specs.Lines.{after_line, next_number, due_line, lines_of}
+use Rattle.texts.specs.Lines.{after_line, next_number, due_line, end_check, lines_of}
 use Rattle.texts.specs.Steps.{◌>>=◌}
 use Rattle.texts.proofs.Cuts.{Unbroken, full_line, due_shorter}
 use Rattle.texts.proofs.Fielded.{other_column, full_written, heading_there, heading_read, line_whole, written_due, written_after}
@@ -16,7 +16,6 @@ use Rattle.filing.specs.declared.pen.Ending.{Ending}
 use Rattle.filing.specs.declared.pen.Ending.TheVariants.{Done, Shut}
 use Rattle.filing.specs.declared.pen.Row.{Row}
 use Rattle.filing.specs.Pen.{path_line, row_line, ending_word, closing_line, rows_text, last_length, record_text}
-use Rattle.records.specs.declared.fault.RecordFault.{RecordFault}
 use Rattle.records.specs.declared.fault.RecordFault.TheVariants as fault
 use Rattle.records.specs.declared.line.Next.{Next}
 use Rattle.records.specs.declared.line.Next.TheVariants as next
@@ -24,7 +23,7 @@ use Rattle.records.specs.Format.{text_of, rows_numbers, Kept, RecordLaw}
 use Rattle.records.specs.Reading.{in_text, in_heading, record_heading, start_row, announced, as_announced, next_of}
 use Rattle.records.specs.Records.{Standing, opened, item_of, RecordValue, below, record_of}
 use Rattle.records.proofs.Below.{behind, gone_on, below_next}
-use Rattle.records.proofs.Items.{item_row, item_end, a_row, the_end, both_right}
+use Rattle.records.proofs.Items.{item_row, item_end}
 use Rattle.records.proofs.Rows.{start_there, start_read, next_there, next_read, closing_there, closing_read}
 
 -- the text of a record, line after line
@@ -73,10 +72,8 @@ tail_read (suc k) h rows n u v short e =
         let w = closing_read a.0 c.ending (length rows) (last_length 0 rows) c.rock a.2 in
         let last = closing_line c.ending (length rows) (last_length 0 rows) c.rock in
         let here : u ≡ last = line_whole n u a.0 (ending_word c.ending) _ a.1 w.0 ∙ ap (λ (x : List ℕ). last ++ x) a.3 ∙ append-nil last in
-        subst (Tail h rows u) (taken g) (record { heading = refl; more = []; all = sym (append-nil rows); text = here; fit = (w.1.1.1.0, (w.1.0, tt)) })
-      where
-        taken : {x : RecordValue} → ◌≡◌ {A = Result RecordValue RecordFault} (Ok x) (Ok v) → x ≡ v
-        taken {x} q = cc
+        let same : record { heading = h; rows = rows; ending = c.ending; rock = c.rock } ≡ v = cc in
+        subst (Tail h rows u) same (record { heading = refl; more = []; all = sym (append-nil rows); text = here; fit = (w.1.1.1.0, (w.1.0, tt)) })
 
 -- line 1 and row 0
 record Opening (t : List ℕ) (s : Standing) : Type 0 where
@@ -93,22 +90,17 @@ opening_read t s e =
     let c = passed (in_heading (heading_check b.0)) _ b.2 in
     let second = passed (in_text (due_line 2 (after_line t))) _ a.2 in
     let start = passed (start_row a.0 second.0) _ second.2 in
-    let same : b.0 ≡ a.0 = kept b.0 a.0 c.2 in
+    let same : b.0 ≡ a.0 = cc (c.2) in
     let read : heading_of first.0 (codes "PATH") ≡ Ok a.0 = sym (lifted fault.Text (heading_of first.0 (codes "PATH")) b.1) ∙ ap Ok same in
     let w = heading_read first.0 (codes "PATH") refl a.0 read in
     let whole = line_whole 1 t first.0 (codes "PATH") (heading_numbers a.0) (sym (lifted fault.Text (due_line 1 t) first.1)) w.0 in
     let next_line = line_whole 2 (after_line t) second.0 [] _ (sym (lifted fault.Text (due_line 2 (after_line t)) second.1)) (start_read second.0 a.0 start.1) in
-    subst (Opening t) (taken a.0 start.2) (record {
+    let there : record { heading = a.0; rest = after_line (after_line t); line = 3; row = 0; length = 0 } ≡ s = cc (start.2) in
+    subst (Opening t) there (record {
       known = ap heading_check (sym same) ∙ sym (lifted fault.Heading (heading_check b.0) c.1);
       fit = w.1;
       text = whole ∙ ap (λ (x : List ℕ). path_line a.0 ++ x) next_line;
     })
-  where
-    kept : (x y : Heading) → ◌≡◌ {A = Result Heading RecordFault} (Ok x) (Ok y) → x ≡ y
-    kept x y q = cc
-
-    taken : (h : Heading) → ◌≡◌ {A = Result Standing RecordFault} (Ok (record { heading = h; rest = after_line (after_line t); line = 3; row = 0; length = 0 })) (Ok s) → record { heading = h; rest = after_line (after_line t); line = 3; row = 0; length = 0 } ≡ s
-    taken h q = cc
 
 laid : (t : List ℕ) (v : RecordValue) → record_of t ≡ Ok v → (t ≡ text_of v) × Kept v
 unfolding record_of
@@ -150,15 +142,17 @@ ending_unbroken Shut = (refl, (refl, (refl, (refl, tt))))
 
 module _ (h : Heading) (rows : List Row) (n : ℕ) where
   row_item : (row : Row) (after : List ℕ) → Fit ((length rows + 1) ∷ row.cell ∷ row.length ∷ []) → item_of (behind h rows n (row_line (length rows + 1) row.cell row.length ++ after)) ≡ Ok (next.Row row)
+  unfolding item_of
   row_item row after fit =
       let ns : List ℕ = (length rows + 1) ∷ row.cell ∷ row.length ∷ [] in
       let l = full_line n ([] ++ fields_text ns) in
       let read : next_of (length rows) (last_length 0 rows) l ≡ Ok (next.Row row) =
       ap (λ (o : Option Ending). as_announced o (length rows) (last_length 0 rows) l) (row_announced (length rows + 1) (row.cell ∷ row.length ∷ []))
       ∙ on _ (next_there l (length rows) row (full_written n [] ns) fit) in
-      sym (a_row (behind h rows n (written_line [] ns ++ after)) l (sym (written_due [] ns after tt n)) row (sym read))
+      on _ (ap in_text (written_due [] ns after tt n)) ∙ on _ read
 
   end_item : (ending : Ending) (rock : ℕ) → Fit (length rows ∷ last_length 0 rows ∷ rock ∷ []) → item_of (behind h rows n (closing_line ending (length rows) (last_length 0 rows) rock)) ≡ Ok (next.End (record { ending = ending; rock = rock }))
+  unfolding item_of
   end_item ending rock fit =
       let ns : List ℕ = length rows ∷ last_length 0 rows ∷ rock ∷ [] in
       let word = ending_word ending in
@@ -168,7 +162,9 @@ module _ (h : Heading) (rows : List Row) (n : ℕ) where
       ap (λ (o : Option Ending). as_announced o (length rows) (last_length 0 rows) l) (ending_announced ending ns)
       ∙ on _ (closing_there l ending (length rows) (last_length 0 rows) rock (full_written n word ns) fit) in
       ap (λ (x : List ℕ). item_of (behind h rows n x)) (sym (append-nil last))
-      ∙ sym (the_end (behind h rows n (last ++ [])) l (sym (written_due word ns [] (ending_unbroken ending) n)) (record { ending = ending; rock = rock }) (sym read) refl (sym (written_after word ns [] (ending_unbroken ending))) refl)
+      ∙ on _ (ap in_text (written_due word ns [] (ending_unbroken ending) n))
+      ∙ on _ read
+      ∙ on _ (ap in_text (ap (end_check (next_number n)) (written_after word ns [] (ending_unbroken ending))))
 
 tail_there : (h : Heading) (ending : Ending) (rock : ℕ) → rock < 2 ^ 32 → (more rows : List Row) (n : ℕ) → length (rows ++ more) < 2 ^ 32 → last_length 0 (rows ++ more) < 2 ^ 32 → Fit (rows_numbers more) → below h rows n (lines_of n (rows_text (length rows) more ++ closing_line ending (length (rows ++ more)) (last_length 0 (rows ++ more)) rock)) ≡ Ok (record { heading = h; rows = rows ++ more; ending = ending; rock = rock })
 tail_there h ending rock small [] rows n count far fit =
@@ -200,7 +196,7 @@ last_fits far [] small fit = small
 last_fits far (row ∷ rows) small fit = last_fits row.length rows fit.1.0 fit.1.1
 
 opening_there : (h : Heading) (rest : List ℕ) → heading_check h ≡ Ok (tt {0}) → h.start < 2 ^ 32 → h.goal < 2 ^ 32 → opened (path_line h ++ (row_line 0 h.start 0 ++ rest)) ≡ Ok (behind h [] 3 rest)
-unfolding record_heading
+unfolding opened record_heading
 opening_there h rest known start goal =
     let word = codes "PATH" in
     let ns = heading_numbers h in
@@ -209,10 +205,14 @@ opening_there h rest known start goal =
     let whole : Unbroken word = (refl, (refl, (refl, (refl, tt)))) in
     let first = full_line 1 (word ++ fields_text ns) in
     let second = full_line 2 ([] ++ fields_text zero_row) in
-    let head : Ok h ≡ record_heading first = sym (on _ (ap in_text (heading_there first word refl h (full_written 1 word ns) (known_small h known start goal))) ∙ on _ (ap in_heading known)) in
-    sym (both_right (path_line h ++ below_first) refl refl first (sym (written_due word ns below_first whole 1)) h head refl refl second
-    (sym (ap (due_line 2) (written_after word ns below_first whole) ∙ written_due [] zero_row rest tt 2)) (sym (start_there second h (full_written 2 [] zero_row) start)) refl
-    (sym (ap after_line (written_after word ns below_first whole) ∙ written_after [] zero_row rest tt)))
+    let head : record_heading first ≡ Ok h = on _ (ap in_text (heading_there first word refl h (full_written 1 word ns) (known_small h known start goal))) ∙ on _ (ap in_heading known) in
+    let cut = written_after word ns below_first whole in
+    let left = ap after_line cut ∙ written_after [] zero_row rest tt in
+    on _ (ap in_text (written_due word ns below_first whole 1))
+    ∙ on _ head
+    ∙ on _ (ap in_text (ap (due_line 2) cut ∙ written_due [] zero_row rest tt 2))
+    ∙ on _ (start_there second h (full_written 2 [] zero_row) start)
+    ∙ (λ i. Ok (record { heading = h; rest = left i; line = 3; row = 0; length = 0 }))
 
 pub record_there : (v : RecordValue) → Kept v → record_of (text_of v) ≡ Ok v
 unfolding record_of

@@ -1,5 +1,4 @@
 -- Lemmas on records that are read.
-pub mod Lines
 pub mod Rows
 pub mod Items
 pub mod Below

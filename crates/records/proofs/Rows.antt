@@ -15,7 +15,6 @@ use Rattle.filing.specs.declared.pen.Ending.{Ending}
 use Rattle.filing.specs.declared.pen.Ending.TheVariants.{Done, Shut}
 use Rattle.filing.specs.declared.pen.Row.{Row}
 use Rattle.filing.specs.Pen.{ending_word}
-use Rattle.records.specs.declared.fault.RecordFault.{RecordFault}
 use Rattle.records.specs.declared.fault.RecordFault.TheVariants as fault
 use Rattle.records.specs.Reading.{in_text, three_fields, row_fields_of, equal_check, start_row, next_row, closing_line_of}
 
@@ -72,7 +71,7 @@ module _ (l : TextLine) where
     where
       by : {u : Unit {0}} (t : Bool) → eqb n right ≡ t → cond t (Ok (tt {0})) (Err (fault.Unequal (in_line l c))) ≡ Ok u → n ≡ right
       by true p h = eqb-true n right p
-      by {u} false p h = let z : ◌≡◌ {A = ℕ} 0 1 = cc in absurd (omega arith)
+      by {u} false p h = cc
 
   pub start_there : (h : Heading) → Written l [] (0 ∷ h.start ∷ 0 ∷ []) → h.start < 2 ^ 32 → start_row h l ≡ Ok (tt {0})
   unfolding start_row
@@ -108,12 +107,9 @@ module _ (l : TextLine) where
       let x = p.0 in
       let a = passed (equal_check l 1 x.0 (number + 1)) _ p.2 in
       let one = equal_read 1 x.0 (number + 1) a.1 in
-      let same = taken x.1 x.2 a.2 in
+      let same : record { cell = x.1; length = x.2 } ≡ row = cc (a.2) in
       let there : ◌≡◌ {A = List ℕ} (x.0 ∷ x.1 ∷ x.2 ∷ []) ((number + 1) ∷ row.cell ∷ row.length ∷ []) = λ i. one i ∷ (same i).cell ∷ (same i).length ∷ [] in
       subst (λ (ns : List ℕ). Written l [] ns × Fit ns) there (row_read x (sym (lifted fault.Text (row_fields_of l) p.1)))
-    where
-      taken : (b d : ℕ) → ◌≡◌ {A = Result Row RecordFault} (Ok (record { cell = b; length = d })) (Ok row) → record { cell = b; length = d } ≡ row
-      taken b d h = cc
 
   -- ---- the closing line
 
@@ -142,7 +138,7 @@ module _ (l : TextLine) where
         let three = three_read l 5 (omega arith) x q.2 (omega (arith, w.size)) in
         let one = equal_read 5 x.0 number a.1 in
         let two = equal_read 15 x.1 far b.1 in
-        let last = taken x.2 b.2 in
+        let last : x.2 ≡ rock = cc (b.2) in
         let column : 5 ≡ length (ending_word ending) + 1 = omega arith in
         let there : ◌≡◌ {A = List ℕ} (x.0 ∷ x.1 ∷ x.2 ∷ []) (number ∷ far ∷ rock ∷ []) = λ i. one i ∷ two i ∷ last i ∷ [] in
         let holds = subst (λ (k : ℕ). Holds l k (x.0 ∷ x.1 ∷ x.2 ∷ [])) column three.0 in
@@ -151,6 +147,3 @@ module _ (l : TextLine) where
         four : (x : Ending) → length (ending_word x) ≡ 4
         four Done = refl
         four Shut = refl
-
-        taken : (d : ℕ) → ◌≡◌ {A = Result ℕ RecordFault} (Ok d) (Ok rock) → d ≡ rock
-        taken d h = cc

@@ -26,7 +26,7 @@ pub record Standing : Type 0 where
   pub length : ℕ
 
 abbrev pub standing : Reader → Standing
-standing r = record { heading = r.heading; rest = r.lines.rest.now; line = r.lines.number; row = r.row; length = r.length }
+standing r = record { heading = r.heading; rest = r.lines.rest.now; line = r.lines.number; row = r.last.number; length = r.last.length }
 
 -- line 1, and line 2 as row 0
 unfoldable pub opened : List ℕ → Result Standing RecordFault

@@ -14,13 +14,13 @@ pub enum RecordFault {
     Unequal(Place),
 }
 
-impl RecordFault {
-    pub fn report(&self) -> Report
-        ensures { result ≡ record_report self.now }
-    {
-        match *self {
-            RecordFault::Text(fault) => fault.report(),
-            RecordFault::Heading(fault) => fault.report(),
+impl From<RecordFault> for Report {
+    ghost from_gives = { λ fault r. r ≡ record_report fault };
+
+    fn from(fault: RecordFault) -> Report {
+        match fault {
+            RecordFault::Text(below) => Report::from(below),
+            RecordFault::Heading(below) => Report::from(below),
             RecordFault::Unequal(place) => Report::at(31, place),
         }
     }

@@ -1,6 +1,5 @@
 // The lines of a record, each checked on its own.
 ghost use Rattle.std.specs.Prelude.{◌≡◌, ◌≤◌};
-ghost use Rattle.filing.specs.Pen.{ending_word};
 ghost use Rattle.texts.specs.Lines.{line_text};
 ghost use Rattle.records.specs.Reading.{record_heading, three_fields, row_fields_of, equal_check, start_row, next_row, announced, closing_line_of, next_of};
 
@@ -34,6 +33,13 @@ pub struct Closing {
     pub rock: u32,
 }
 
+// The last row that was read: its number, and the length so far.
+#[derive(Clone, Copy)]
+pub(crate) struct LastRow {
+    pub number: u32,
+    pub length: u32,
+}
+
 // A line below row 0: one more row, or the closing line.
 #[derive(Clone, Copy, PartialEq, Eq, Debug)]
 pub enum Next {
@@ -41,7 +47,8 @@ pub enum Next {
     End(Closing),
 }
 
-// The first line.
+// The first line. Both steps stand in the site reader too; each `?` converts into the reader's own fault.
+#[tactic(auto, unfolding(crate::specs::Reading::record_heading))]
 pub(crate) fn read_heading(line: &Line<'_>) -> Result<Heading, RecordFault>
     ensures { result ≡ record_heading (line_text line.now) }
 {
@@ -51,6 +58,7 @@ pub(crate) fn read_heading(line: &Line<'_>) -> Result<Heading, RecordFault>
 }
 
 // Row 0: the start, at length 0.
+#[tactic(auto, unfolding(crate::specs::Reading::start_row))]
 pub(crate) fn check_start(line: &Line<'_>, heading: &Heading) -> Result<(), RecordFault>
     ensures { result ≡ start_row heading.now (line_text line.now) }
 {
@@ -60,19 +68,15 @@ pub(crate) fn check_start(line: &Line<'_>, heading: &Heading) -> Result<(), Reco
     check_equal(line, FAR, length, 0)
 }
 
-// A line below row 0, behind the row of this number and length. Its first byte alone decides what it is.
-pub(crate) fn read_next(line: &Line<'_>, row: u32, length: u32) -> Result<Next, RecordFault>
-    ensures { result ≡ next_of row length (line_text line.now) }
+// A line below row 0, behind this row. Its first byte alone decides what it is.
+pub(crate) fn read_next(line: &Line<'_>, last: LastRow) -> Result<Next, RecordFault>
+    ensures { result ≡ next_of last.number last.length (line_text line.now) }
 {
     match announced_by(line.bytes) {
         Some(ending) => {
-            let rock = read_closing(line, ending, row, length)?;
-            Ok(Next::End(Closing { ending, rock }))
+            read_closing(line, ending, last).map(|rock| Next::End(Closing { ending, rock }))
         }
-        None => {
-            let row = read_row(line, row)?;
-            Ok(Next::Row(row))
-        }
+        None => read_row(line, last.number).map(Next::Row),
     }
 }
 
@@ -88,6 +92,7 @@ fn announced_by(bytes: &[u8]) -> Option<Ending>
 }
 
 // The row after the one of this number.
+#[tactic(auto, unfolding(crate::specs::Reading::next_row))]
 fn read_row(line: &Line<'_>, last: u32) -> Result<Row, RecordFault>
     ensures { result ≡ next_row last (line_text line.now) }
 {
@@ -96,28 +101,20 @@ fn read_row(line: &Line<'_>, last: u32) -> Result<Row, RecordFault>
     Ok(Row { cell, length })
 }
 
-// The rock found, on a closing line behind the row of this number and length.
-fn read_closing(line: &Line<'_>, ending: Ending, row: u32, far: u32) -> Result<u32, RecordFault>
-    ensures { result ≡ closing_line_of ending row far (line_text line.now) }
+// The rock found, on a closing line behind this row.
+#[tactic(auto, unfolding(crate::specs::Reading::closing_line_of))]
+fn read_closing(line: &Line<'_>, ending: Ending, last: LastRow) -> Result<u32, RecordFault>
+    ensures { result ≡ closing_line_of ending last.number last.length (line_text line.now) }
 {
-    line.check_word(word_of(ending), FIELDS)?;
+    line.check_word(ending.word(), FIELDS)?;
     let (moves, length, rock) = fields_from(line, MOVES)?;
-    check_equal(line, MOVES, moves, u64::from(row))?;
-    check_equal(line, LENGTH, length, u64::from(far))?;
+    check_equal(line, MOVES, moves, u64::from(last.number))?;
+    check_equal(line, LENGTH, length, u64::from(last.length))?;
     Ok(rock)
 }
 
-// The word of a closing line.
-fn word_of(ending: Ending) -> &'static str
-    ensures { result.now ≡ ending_word ending }
-{
-    match ending {
-        Ending::Done => "DONE",
-        Ending::Shut => "SHUT",
-    }
-}
-
 // The number, cell and length on a row.
+#[tactic(auto, unfolding(crate::specs::Reading::row_fields_of))]
 fn row_fields(line: &Line<'_>) -> Result<(u32, u32, u32), TextFault>
     ensures { result ≡ row_fields_of (line_text line.now) }
 {
@@ -125,7 +122,8 @@ fn row_fields(line: &Line<'_>) -> Result<(u32, u32, u32), TextFault>
     fields_from(line, NUMBER)
 }
 
-// Three fields from this column on.
+// Three fields from this column on; a tuple, since each caller takes it apart into names of its own.
+#[tactic(auto, unfolding(crate::specs::Reading::three_fields))]
 fn fields_from(line: &Line<'_>, column: u32) -> Result<(u32, u32, u32), TextFault>
     requires { column ≤ 5 }
     ensures { result ≡ three_fields (line_text line.now) column }

@@ -21,23 +21,22 @@ pub struct Record {
 }
 
 // Reads a whole record.
+#[tactic(auto, using(crate::proofs::Below::reading))]
 pub fn read_record(text: &[u8]) -> Result<Record, RecordFault>
     ensures value { result ≡ result_map_both summary (λ e. e) (record_of text.now) }
     ensures law { RecordLaw text.now }
 {
     let mut reader = Reader::open(text)?;
-    loop {
-        match reader.next()? {
-            Next::Row(_) => {}
-            Next::End(closing) => {
-                return Ok(Record {
-                    heading: reader.heading(),
-                    ending: closing.ending,
-                    moves: reader.row(),
-                    length: reader.length(),
-                    rock: closing.rock,
-                });
-            }
+    let closing = loop {
+        if let Next::End(closing) = reader.next()? {
+            break closing;
         }
-    }
+    };
+    Ok(Record {
+        heading: reader.heading(),
+        ending: closing.ending,
+        moves: reader.row(),
+        length: reader.length(),
+        rock: closing.rock,
+    })
 }

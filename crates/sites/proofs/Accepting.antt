@@ -1,29 +1,22 @@
 -- What a site that is accepted keeps to.
-use Rattle.std.proofs.Common.{◌≡◌, ℕ, zero, suc, ◌+◌, ◌-◌, ◌*◌, ◌<◌, ◌≤◌, Bool, true, false, cond, eqb, ltb, leb, ◌⊎◌, List, [], ◌∷◌, ◌++◌, length, get_or, take, drop, IfOk, Ok, Err, codes, Result, sym, refl, ap, ◌∙◌, subst, inl, inr, suc-mul, mul_comm, zero-mul, arith}
+use Rattle.std.proofs.Common.{◌≡◌, ℕ, zero, suc, ◌+◌, ◌-◌, ◌*◌, ◌<◌, ◌≤◌, Bool, true, false, cond, ltb, ◌⊎◌, List, ◌++◌, length, get_or, take, drop, IfOk, Ok, Err, codes, Result, sym, refl, ap, ◌∙◌, subst, inl, inr, suc-mul, mul_comm, zero-mul, arith}
 use Rattle.std.specs.Result.{result_map_both}
 use Rattle.std.proofs.lemmas.List.{length-append, length-take-le, length-drop, get_or_append_left, get_or-append_right, drop-take, take-take}
-use Rattle.std.proofs.lemmas.Bool.{cases_lt, leb-false, eqb-true, eqb-false, or_cases}
+use Rattle.std.proofs.lemmas.Bool.Decides.{nat_tests}
+use Rattle.std.proofs.lemmas.Bool.{ltb-false, cases_lt}
 use Rattle.sites.specs.declared.fault.SiteFault.{SiteFault}
 use Rattle.sites.specs.declared.fault.SiteFault.TheVariants as fault
 use Rattle.texts.specs.declared.heading.Heading.{Heading}
 use Rattle.sites.specs.declared.site.Site.{Site}
-use Rattle.texts.specs.Lines.{TextLine, after_line, due_line, end_check, in_line}
-use Rattle.sites.specs.Site.{in_text, site_heading, is_mark, marks_check, row_check, rows_check, word_alone, after_lines, cells_of, ends_check, SiteValue, site_value, site_under, site_of, Accepted}
+use Rattle.texts.specs.FirstLines.{heading_of}
+use Rattle.texts.specs.Headings.{heading_check}
+use Rattle.texts.specs.Lines.{TextLine, after_line, due_line, end_check}
+use Rattle.sites.specs.Site.{in_text, in_heading, site_heading, is_mark, row_check, rows_check, word_alone, after_lines, cells_of, ends_check, SiteValue, site_value, site_under, site_of, Accepted}
 use Rattle.sites.specs.Format.{plan_of, Bounded}
 use Rattle.texts.specs.Words.{length_check}
+use Rattle.sites.proofs.Marks.{marks_all}
 use Rattle.sites.proofs.Rows.{row_long, rows_long}
 use Rattle.texts.proofs.Steps.{passed, lifted}
-use Rattle.sites.proofs.Under.{Headed, headed}
-
--- marks up to the end
-marks_all : (l : TextLine) (c : ℕ) (bs : List ℕ) → marks_check l c bs ≡ Ok (tt {0}) → (k : ℕ) → k < length bs → is_mark (get_or bs k 0) ≡ true
-marks_all l c [] e k h = absurd (omega arith)
-marks_all l c (b ∷ bs) e k h = by (is_mark b) refl e k h (marks_all l (c + 1) bs)
-  where
-    by : (t : Bool) → is_mark b ≡ t → cond t (marks_check l (c + 1) bs) (Err (fault.Foreign (in_line l c))) ≡ Ok (tt {0}) → (k : ℕ) → k < length (b ∷ bs) → (marks_check l (c + 1) bs ≡ Ok (tt {0}) → (j : ℕ) → j < length bs → is_mark (get_or bs j 0) ≡ true) → is_mark (get_or (b ∷ bs) k 0) ≡ true
-    by true m g zero h rest = m
-    by true m g (suc k) h rest = rest g k (omega arith)
-    by false m g k h rest = let z : ◌≡◌ {A = ℕ} 0 1 = cc in absurd (omega arith)
 
 -- the cells of a sheet, whatever stands behind it
 pub cells_front : (rows w : ℕ) (t : List ℕ) → cells_of w rows (take (rows * (w + 1)) t) ≡ cells_of w rows t
@@ -70,11 +63,31 @@ cells_marks (suc k) w n t e c l =
     by first total here there (inl h) = ap is_mark (get_or_append_left (take w t) (cells_of w k (drop (w + 1) t)) 0 c (omega arith)) ∙ here c (omega arith)
     by first total here there (inr h) = ap is_mark (get_or-append_right (take w t) (cells_of w k (drop (w + 1) t)) w c 0 first h) ∙ there (c - w) (omega arith)
 
--- start and goal that are accepted
+-- a test that stands before other checks has passed if they all have
 pub refuses : {A : Type 0} (b : Bool) (e : SiteFault) (rest : Result A SiteFault) (x : A) → cond b (Err e) rest ≡ Ok x → (b ≡ false) × (rest ≡ Ok x)
-refuses true e rest x h = let z : ◌≡◌ {A = ℕ} 0 1 = cc in absurd (omega arith)
+refuses true e rest x h = absurd cc
 refuses false e rest x h = (refl, h)
 
+-- a first line that is accepted
+pub record Headed (l : TextLine) (h : Heading) : Type 0 where
+  pub read : heading_of l (codes "SITE") ≡ Ok h
+  pub known : heading_check h ≡ Ok (tt {0})
+  pub small : h.width * h.height ≤ 512
+
+pub headed : (l : TextLine) (h : Heading) → Ok h ≡ site_heading l → Headed l h
+unfolding site_heading
+headed l h e =
+    let p = passed (in_text (heading_of l (codes "SITE"))) _ (sym e) in
+    let q = passed (in_heading (heading_check p.0)) _ p.2 in
+    let r = refuses (ltb 512 (p.0.width * p.0.height)) _ _ _ q.2 in
+    let same : p.0 ≡ h = cc r.1 in
+    subst (Headed l) same (record {
+      read = sym (lifted fault.Text (heading_of l (codes "SITE")) p.1);
+      known = sym (lifted fault.Heading (heading_check p.0) q.1);
+      small = ltb-false 512 (p.0.width * p.0.height) r.0;
+    })
+
+-- start and goal that are accepted
 module _ (h : Heading) (sheet : List ℕ) (e : ends_check h sheet ≡ Ok (tt {0})) where
   record Ends : Type 0 where
     start : h.start < h.width * h.height
@@ -83,18 +96,10 @@ module _ (h : Heading) (sheet : List ℕ) (e : ends_check h sheet ≡ Ok (tt {0}
 
   ends : Ends
   unfolding ends_check
-  ends =
-      let p = refuses (leb (h.width * h.height) h.start) _ _ _ e in
-      let q = refuses (eqb (get_or (cells_of h.width h.height sheet) h.start 0) 35) _ _ _ p.1 in
-      let r = refuses (leb (h.width * h.height) h.goal) _ _ _ q.1 in
-      record { start = leb-false (h.width * h.height) h.start p.0; clear = eqb-false (get_or (cells_of h.width h.height sheet) h.start 0) 35 q.0; goal = leb-false (h.width * h.height) h.goal r.0 }
+  ends = record { start = grind (arith, nat_tests); clear = λ rock. grind (arith, nat_tests); goal = grind (arith, nat_tests) }
 
 passable_mark : (b : ℕ) → is_mark b ≡ true → (b ≡ 35 → ⊥) → b ≡ 46
-passable_mark b m n = by (or_cases (eqb b 46) (eqb b 35) m)
-  where
-    by : (eqb b 46 ≡ true) ⊎ (eqb b 35 ≡ true) → b ≡ 46
-    by (inl e) = eqb-true b 46 e
-    by (inr e) = absurd (n (eqb-true b 35 e))
+passable_mark b m n = grind (arith, nat_tests)
 
 sheet_accepted : (l : TextLine) (h : Heading) (rows : List ℕ) → Headed l h → rows_check h.height h.width 3 rows ≡ Ok (tt {0}) → ends_check h (take (h.height * (h.width + 1)) rows) ≡ Ok (tt {0}) → Accepted h (take (h.height * (h.width + 1)) rows)
 sheet_accepted l h rows g r e =
@@ -128,11 +133,8 @@ under_accepted l h plan s g e =
     let c = passed (word_alone (h.height + 3) (codes "END") end) _ b.2 in
     let d = passed (in_text (end_check (h.height + 4) (after_line end))) _ c.2 in
     let f = passed (ends_check h sheet) _ d.2 in
-    let last : record { heading = h; sheet = sheet } ≡ s = taken f.2 in
+    let last : record { heading = h; sheet = sheet } ≡ s = cc f.2 in
     subst (λ (v : SiteValue). Accepted v.heading v.sheet) last (sheet_accepted l h rows g b.1 f.1)
-  where
-    taken : {v : SiteValue} → ◌≡◌ {A = Result SiteValue SiteFault} (Ok v) (Ok s) → v ≡ s
-    taken {v} q = cc
 
 pub accepted : (t : List ℕ) (s : SiteValue) → site_of t ≡ Ok s → Accepted s.heading s.sheet
 unfolding site_of

@@ -1,8 +1,9 @@
 -- A text is accepted as a site exactly if it is the text of that site: both ways, line by line.
-use Rattle.std.proofs.Common.{◌≡◌, ℕ, zero, suc, ◌+◌, ◌*◌, ◌<◌, ◌≤◌, true, false, eqb, ltb, ◌⊎◌, List, [], ◌∷◌, ◌++◌, length, get_or, take, drop, Ok, Err, codes, Result, sym, refl, ap, ◌∙◌, subst, inl, inr, suc-mul, mul_comm, zero-mul, mul-one, mul-add, arith}
+use Rattle.std.proofs.Common.{◌≡◌, ℕ, zero, suc, ◌+◌, ◌*◌, ◌<◌, ◌≤◌, true, false, eqb, ltb, List, [], ◌∷◌, ◌++◌, length, get_or, take, drop, Ok, Err, codes, Result, sym, refl, ap, ◌∙◌, subst, suc-mul, mul_comm, zero-mul, mul-one, mul-add, arith}
 use Rattle.std.specs.Result.{result_map_both}
 use Rattle.std.proofs.lemmas.List.{append-nil, append_assoc, length-append, length-take-le, length-drop, take_at, drop_at, take-append-drop, get_or-take, get_or-drop, nil_from_length}
-use Rattle.std.proofs.lemmas.Bool.{cond-true, cond-false, eqb-true, ne_eqb, eq-eqb, le-ltb, lt-leb, or_cases, and_from}
+use Rattle.std.proofs.lemmas.Bool.Decides.{nat_tests}
+use Rattle.std.proofs.lemmas.Bool.{cond-true, cond-false, ne_eqb, eq-eqb, le-ltb, lt-leb, and_from}
 use Rattle.texts.specs.declared.heading.Heading.{Heading}
 use Rattle.texts.specs.Fields.{fields_text, written_line}
 use Rattle.texts.specs.Headings.{heading_numbers}
@@ -17,11 +18,11 @@ use Rattle.texts.proofs.Words.{right_length}
 use Rattle.sites.specs.declared.fault.SiteFault.{SiteFault}
 use Rattle.sites.specs.declared.fault.SiteFault.TheVariants as fault
 use Rattle.sites.specs.Format.{Plan, plan_of, rows_text, site_text, Bounded, SiteLaw}
-use Rattle.sites.specs.Site.{in_text, in_heading, site_heading, is_mark, marks_check, row_check, rows_check, word_alone, after_lines, cells_of, ends_check, SiteValue, site_value, site_under, site_of}
+use Rattle.sites.specs.Site.{in_text, in_heading, site_heading, is_mark, row_check, rows_check, word_alone, after_lines, cells_of, ends_check, SiteValue, site_value, site_under, site_of}
 use Rattle.sites.specs.declared.site.Site.{Site}
-use Rattle.sites.proofs.Accepting.{accepted, bounded, cells_front, refuses}
+use Rattle.sites.proofs.Accepting.{headed, accepted, bounded, cells_front, refuses}
+use Rattle.sites.proofs.Marks.{marks_pass}
 use Rattle.sites.proofs.Rows.{row_long}
-use Rattle.sites.proofs.Under.{headed}
 
 -- ---- what is accepted is laid out so
 
@@ -71,7 +72,7 @@ under_laid h plan s e =
     let c = passed (word_alone (k + 3) (codes "END") end) _ b.2 in
     let d = passed (in_text (end_check (k + 4) (after_line end))) _ c.2 in
     let f = passed (ends_check h sheet) _ d.2 in
-    let last : record { heading = h; sheet = sheet } ≡ s = taken f.2 in
+    let last : record { heading = h; sheet = sheet } ≡ s = cc f.2 in
     let none : after_line end ≡ [] = nothing_behind (k + 4) (after_line end) (sym (lifted fault.Text (end_check (k + 4) (after_line end)) d.1)) in
     let closing : end ≡ written_line (codes "END") [] = word_laid (k + 3) (codes "END") end c.1 ∙ ap (λ (x : List ℕ). written_line (codes "END") [] ++ x) none ∙ append-nil (written_line (codes "END") []) in
     let cells : cells_of w k rows ≡ cells_of w k s.sheet = sym (cells_front k w rows) ∙ ap (λ (v : SiteValue). cells_of w k v.sheet) last in (
@@ -79,9 +80,6 @@ under_laid h plan s e =
       word_laid 2 (codes "PLAN") plan a.1
           ∙ ap (λ (x : List ℕ). written_line (codes "PLAN") [] ++ x) (rows_laid k w 3 rows b.1 ∙ ap (λ (x : List ℕ). rows_text w k (cells_of w k rows) ++ x) closing ∙ ap (λ (x : List ℕ). rows_text w k x ++ written_line (codes "END") []) cells),
     )
-  where
-    taken : {v : SiteValue} → ◌≡◌ {A = Result SiteValue SiteFault} (Ok v) (Ok s) → v ≡ s
-    taken {v} q = cc
 
 laid : (t : List ℕ) (s : SiteValue) → site_of t ≡ Ok s → t ≡ site_text (plan_of s)
 unfolding site_of site_text
@@ -100,16 +98,8 @@ laid t s e =
 
 -- ---- what is laid out so is accepted
 
-marks_pass : (l : TextLine) (c : ℕ) (bs : List ℕ) → ((k : ℕ) → k < length bs → is_mark (get_or bs k 0) ≡ true) → marks_check l c bs ≡ Ok (tt {0})
-marks_pass l c [] m = refl
-marks_pass l c (b ∷ bs) m = cond-true (is_mark b) _ _ (m 0 (omega arith)) ∙ marks_pass l (c + 1) bs (λ k h. m (suc k) (omega arith))
-
 mark_unbroken : (b : ℕ) → is_mark b ≡ true → eqb b 10 ≡ false
-mark_unbroken b m = by (or_cases (eqb b 46) (eqb b 35) m)
-  where
-    by : (eqb b 46 ≡ true) ⊎ (eqb b 35 ≡ true) → eqb b 10 ≡ false
-    by (inl e) = ne_eqb b 10 (λ h. omega (arith, eqb-true b 46 e))
-    by (inr e) = ne_eqb b 10 (λ h. omega (arith, eqb-true b 35 e))
+mark_unbroken b m = grind (arith, nat_tests)
 
 marks_unbroken : (bs : List ℕ) → ((k : ℕ) → k < length bs → is_mark (get_or bs k 0) ≡ true) → Unbroken bs
 marks_unbroken [] m = tt
@@ -263,7 +253,7 @@ site_law r t e p = (read r e, written)
     read (Ok s) h g =
         let same : plan_of s ≡ p = cc in
         subst (λ (x : Plan). (t ≡ site_text x) × Bounded x) same (laid t s (sym h), bounded s (accepted t s (sym h)))
-    read (Err d) h g = let z : ◌≡◌ {A = ℕ} 0 1 = cc in absurd (omega arith)
+    read (Err d) h g = absurd cc
 
     written : t ≡ site_text p → Bounded p → result_map_both plan_of (λ d. d) r ≡ Ok p
     written f b = ap (result_map_both plan_of (λ d. d)) (e ∙ ap site_of f ∙ passes p b) ∙ ap Ok (same_plan p b)

@@ -1,6 +1,6 @@
 -- Lemmas on site texts.
 pub mod Sheets
+pub mod Marks
 pub mod Rows
-pub mod Under
 pub mod Accepting
 pub mod Laid

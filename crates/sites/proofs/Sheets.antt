@@ -1,12 +1,35 @@
--- The cells of a sheet: where their bytes stand, and what holds of start and goal.
-use Rattle.std.proofs.Common.{◌≡◌, ℕ, zero, suc, ◌+◌, ◌*◌, ◌/◌, ◌%◌, ◌<◌, ◌≤◌, List, ◌++◌, length, get_or, take, drop, Ok, Err, sym, refl, ap, ◌∙◌, subst, mod-lt, suc-mul, mul_comm, div-lt_iff_lt-mul, div-add-mod', zero-add, zero-mul, arith}
-use lib.Arith.{digits_lt}
-use Rattle.std.proofs.lemmas.List.{length-take-le, length-drop, get_or_append_left, get_or-append_right, get_or-take, get_or-drop}
-use Rattle.std.proofs.lemmas.Bool.{le-leb, lt-leb, eq-eqb, ne_eqb}
-use Rattle.sites.specs.declared.fault.SiteFault.TheVariants as fault
+-- The cells of a sheet: row by row, and where their bytes stand.
+use Rattle.std.proofs.Common.{◌≡◌, ℕ, zero, suc, ◌+◌, ◌*◌, ◌/◌, ◌%◌, ◌<◌, ◌≤◌, min, ◌⊎◌, List, [], ◌++◌, length, get_or, take, drop, sym, refl, ap, ◌∙◌, subst, inl, inr, add-one, append-nil, length-append, mod-lt, suc-mul, mul_comm, div-lt_iff_lt-mul, div-add-mod', zero-add, zero-mul, arith}
+use Rattle.std.proofs.lemmas.List.{nil_from_length, take-append-le, drop_at, take_all, drop_all, length-take-le, length-drop, get_or_append_left, get_or-append_right, get_or-take, get_or-drop}
+use Rattle.std.proofs.lemmas.Bool.{cases_lt}
 use Rattle.texts.specs.declared.heading.Heading.{Heading}
-use Rattle.texts.specs.Headings.{heading_field}
-use Rattle.sites.specs.Site.{cells_of, ends_check}
+use Rattle.sites.specs.Site.{cells_of}
+
+-- a row and its end off the front of a sheet
+pub row_first : (w j k : ℕ) (s row rest : List ℕ) → k + 1 ≡ j → s ≡ row ++ rest → length row ≡ min (w + 1) (length s) → cells_of w j s ≡ take w row ++ cells_of w k rest
+row_first w j k s row rest n e l = ap (λ i. cells_of w i s) (sym n ∙ add-one k) ∙ by (cases_lt (length s) (w + 1))
+  where
+    parts : length s ≡ length row + length rest
+    parts = ap length e ∙ length-append row rest
+
+    joined : take w s ≡ take w row → drop (w + 1) s ≡ rest → cells_of w (suc k) s ≡ take w row ++ cells_of w k rest
+    joined f b = ap (λ (x : List ℕ). x ++ cells_of w k (drop (w + 1) s)) f ∙ ap (λ (x : List ℕ). take w row ++ cells_of w k x) b
+
+    by : (length s < w + 1) ⊎ (w + 1 ≤ length s) → cells_of w (suc k) s ≡ take w row ++ cells_of w k rest
+    by (inl h) =
+        let none : rest ≡ [] = nil_from_length rest (omega (arith, parts)) in
+        joined (ap (take w) (e ∙ rw none (append-nil row))) (drop_all (w + 1) s (omega arith) ∙ sym none)
+    by (inr h) = joined (ap (take w) e ∙ take-append-le w row rest (omega (arith, parts))) (ap (drop (w + 1)) e ∙ drop_at row rest (w + 1) (omega arith))
+
+-- no cells of no rows, or of a sheet with no bytes
+pub no_cells : (w k : ℕ) (s : List ℕ) → (0 < k → length s ≡ 0) → cells_of w k s ≡ []
+no_cells w zero s h = refl
+no_cells w (suc k) s h =
+    let none : s ≡ [] = nil_from_length s (h (omega arith)) in
+    ap (cells_of w (suc k)) none
+    ∙ ap (λ (x : List ℕ). x ++ cells_of w k (drop (w + 1) [])) (take_all w [] (omega arith))
+    ∙ ap (cells_of w k) (drop_all (w + 1) [] (omega arith))
+    ∙ no_cells w k [] (λ _. refl)
 
 -- the byte in column j of row r
 byte_in_row : (w rows : ℕ) (s : List ℕ) (r j : ℕ) → r < rows → j < w → length s ≡ rows * (w + 1) → get_or (cells_of w rows s) (r * w + j) 0 ≡ get_or s (r * (w + 1) + j) 0
@@ -47,33 +70,8 @@ module _ (w rows c : ℕ) (l : c < w * rows) where
   in_row : c / w < rows
   in_row = (div-lt_iff_lt-mul some_width).1 (subst (λ n. c < n) (mul_comm w rows) l)
 
--- the ways of the check of start and goal
-module _ (h : Heading) (sheet : List ℕ) where
-  pub start_off : h.width * h.height ≤ h.start → Err (fault.StartOffFloor (heading_field 3)) ≡ ends_check h sheet
-  unfolding ends_check
-  start_off l = rw (le-leb (h.width * h.height) h.start l) refl
-
-  module _ (l : h.start < h.width * h.height) (e : length sheet ≡ h.height * (h.width + 1)) where
-    pub start_within : h.start / h.width * (h.width + 1) + h.start % h.width < length sheet
-    start_within =
-        let below = in_column h.width h.height h.start l in
-        let k : h.start / h.width * (h.width + 1) + h.start % h.width < h.height * (h.width + 1) = digits_lt (in_row h.width h.height h.start l) (omega arith) in
-        omega arith
-
-    start_byte : get_or (cells_of h.width h.height sheet) h.start 0 ≡ get_or sheet (h.start / h.width * (h.width + 1) + h.start % h.width) 0
-    start_byte =
-        ap (λ n. get_or (cells_of h.width h.height sheet) n 0) (sym (div-add-mod' h.start h.width))
-        ∙ byte_in_row h.width h.height sheet (h.start / h.width) (h.start % h.width) (in_row h.width h.height h.start l) (in_column h.width h.height h.start l) e
-
-    pub start_on_rock : get_or sheet (h.start / h.width * (h.width + 1) + h.start % h.width) 0 ≡ 35 → Err (fault.StartOnRock (heading_field 3)) ≡ ends_check h sheet
-    unfolding ends_check
-    start_on_rock g = rw (lt-leb (h.width * h.height) h.start l, eq-eqb (get_or (cells_of h.width h.height sheet) h.start 0) 35 (start_byte ∙ g)) refl
-
-    module _ (g : get_or sheet (h.start / h.width * (h.width + 1) + h.start % h.width) 0 ≡ 35 → ⊥) where
-      pub goal_off : h.width * h.height ≤ h.goal → Err (fault.GoalOffFloor (heading_field 4)) ≡ ends_check h sheet
-      unfolding ends_check
-      goal_off m = rw (lt-leb (h.width * h.height) h.start l, ne_eqb (get_or (cells_of h.width h.height sheet) h.start 0) 35 (λ k. g (sym start_byte ∙ k)), le-leb (h.width * h.height) h.goal m) refl
-
-      pub ends_on_floor : h.goal < h.width * h.height → Ok (tt {0}) ≡ ends_check h sheet
-      unfolding ends_check
-      ends_on_floor m = rw (lt-leb (h.width * h.height) h.start l, ne_eqb (get_or (cells_of h.width h.height sheet) h.start 0) 35 (λ k. g (sym start_byte ∙ k)), lt-leb (h.width * h.height) h.goal m) refl
+-- the byte of the start
+pub start_byte : (h : Heading) (sheet : List ℕ) → h.start < h.width * h.height → length sheet ≡ h.height * (h.width + 1) → get_or (cells_of h.width h.height sheet) h.start 0 ≡ get_or sheet (h.start / h.width * (h.width + 1) + h.start % h.width) 0
+start_byte h sheet l e =
+    ap (λ n. get_or (cells_of h.width h.height sheet) n 0) (sym (div-add-mod' h.start h.width))
+    ∙ byte_in_row h.width h.height sheet (h.start / h.width) (h.start % h.width) (in_row h.width h.height h.start l) (in_column h.width h.height h.start l) e

@@ -24,13 +24,13 @@ pub enum SiteFault {
     GoalOffFloor(Place),
 }
 
-impl SiteFault {
-    pub fn report(&self) -> Report
-        ensures { result ≡ site_report self.now }
-    {
-        match *self {
-            SiteFault::Text(fault) => fault.report(),
-            SiteFault::Heading(fault) => fault.report(),
+impl From<SiteFault> for Report {
+    ghost from_gives = { λ fault r. r ≡ site_report fault };
+
+    fn from(fault: SiteFault) -> Report {
+        match fault {
+            SiteFault::Text(fault) => Report::from(fault),
+            SiteFault::Heading(fault) => Report::from(fault),
             SiteFault::TooLong => Report::nowhere(26),
             SiteFault::TooLarge(place) => Report::at(25, place),
             SiteFault::Foreign(place) => Report::at(3, place),

@@ -24,12 +24,10 @@ impl Site<'_> {
         ensures { IfOk result (λ v. v.items ≡ cells_of self.now.heading.width self.now.heading.height self.now.sheet.now) }
     {
         let width = self.heading.width as usize;
+        let rows = self.sheet.chunks(width + 1);
         let mut cells = Vec::new(heap);
-        let mut rest = self.sheet;
-        for _row in 0..self.heading.height {
-            let length = rest.len();
-            cells.extend_from_slice(&rest[0..length.min(width)])?;
-            rest = &rest[length.min(width + 1)..];
+        for row in rows.take(self.heading.height as usize) {
+            cells.extend_from_slice(&row[..row.len().min(width)])?;
         }
         Ok(cells)
     }
@@ -45,6 +43,7 @@ const ROCK: u8 = b'#';
 const MOST_CELLS: u32 = 512;
 
 // Reads a site text.
+#[tactic(auto, unfolding(crate::specs::Site::site_of))]
 pub fn read_site(text: &[u8]) -> Result<Site<'_>, SiteFault>
     ensures value { result_map_both site_value (λ e. e) result ≡ site_of text.now }
     ensures accepted { IfOk result (λ s. Accepted s.heading s.sheet.now) }
@@ -55,38 +54,86 @@ pub fn read_site(text: &[u8]) -> Result<Site<'_>, SiteFault>
         return Err(SiteFault::TooLong);
     }
     let mut lines = Lines::new(text);
-    let heading = read_heading(&lines.due()?)?;
-    read_sheet(&mut lines, heading)
+    let floor = Floor::read(&lines.due()?)?;
+    floor.read_sheet(&mut lines)
 }
 
-// The lines below the first: `PLAN`, the sheet, `END` and nothing more.
-fn read_sheet<'a>(lines: &mut Lines<'a>, heading: Heading) -> Result<Site<'a>, SiteFault>
-    requires { (heading.width ≤ 64) × (heading.height ≤ 64) × (lines.old.number ≡ 2) }
-    ensures { result_map_both site_value (λ e. e) result ≡ site_under heading lines.old.rest.now }
-{
-    check_word_alone(lines, "PLAN")?;
-    let rows = lines.rest();
-    check_rows(lines, &heading)?;
-    check_word_alone(lines, "END")?;
-    lines.end()?;
-    let sheet = &rows[0..(heading.height * (heading.width + 1)) as usize];
-    check_ends(&heading, sheet)?;
-    Ok(Site { heading, sheet })
+// A floor as an accepted first line has it, with sides of at most 64 cells.
+#[derive(Clone, Copy)]
+struct Floor {
+    heading: Heading,
+    ghost sized: { (heading.width ≤ 64) × (heading.height ≤ 64) },
 }
 
-// The first line, with a floor that is not too large.
-fn read_heading(line: &Line<'_>) -> Result<Heading, SiteFault>
-    ensures { result ≡ site_heading (line_text line.now) }
-{
-    let heading = Heading::read(line, "SITE")?;
-    heading.check()?;
-    if heading.width * heading.height > MOST_CELLS {
-        return Err(SiteFault::TooLarge(in_column(WIDTH)));
+impl Floor {
+    // The first line, with a floor that is not too large.
+    #[tactic(auto, unfolding(crate::specs::Site::site_heading))]
+    fn read(line: &Line<'_>) -> Result<Floor, SiteFault>
+        ensures { result_map_both (λ f. f.heading) (λ e. e) result ≡ site_heading (line_text line.now) }
+    {
+        let heading = Heading::read(line, "SITE")?;
+        heading.check()?;
+        if heading.width * heading.height > MOST_CELLS {
+            return Err(SiteFault::TooLarge(in_column(WIDTH)));
+        }
+        Ok(Floor { heading })
     }
-    Ok(heading)
+
+    // The lines below the first: `PLAN`, the sheet, `END` and nothing more.
+    #[tactic(auto, unfolding(crate::specs::Site::site_under))]
+    fn read_sheet<'a>(&self, lines: &mut Lines<'a>) -> Result<Site<'a>, SiteFault>
+        requires { lines.old.number ≡ 2 }
+        ensures { result_map_both site_value (λ e. e) result ≡ site_under self.now.heading lines.old.rest.now }
+    {
+        check_word_alone(lines, "PLAN")?;
+        let rows = lines.rest();
+        self.check_rows(lines)?;
+        check_word_alone(lines, "END")?;
+        lines.end()?;
+        let heading = self.heading;
+        let sheet = &rows[0..(heading.height * (heading.width + 1)) as usize];
+        self.check_ends(sheet)?;
+        Ok(Site { heading, sheet })
+    }
+
+    // The next lines are the rows of the sheet.
+    fn check_rows(&self, lines: &mut Lines<'_>) -> Result<(), SiteFault>
+        requires { lines.old.number ≡ 3 }
+        ensures checked { result ≡ rows_check self.now.heading.height self.now.heading.width 3 lines.old.rest.now }
+        ensures rest { OnOk result (lines.new.rest.now ≡ after_lines self.now.heading.height lines.old.rest.now) }
+        ensures number { OnOk result (lines.new.number ≡ self.now.heading.height + 3) }
+    {
+        for _row in 0..self.heading.height {
+            check_row(&lines.due()?, self.heading.width as u16)?;
+        }
+        Ok(())
+    }
+
+    // Start and goal are cells of the floor, and the start is not on rock.
+    #[tactic(auto, using(crate::proofs::Sheets::start_byte), unfolding(crate::specs::Site::ends_check))]
+    fn check_ends(&self, sheet: &[u8]) -> Result<(), SiteFault>
+        requires { length sheet.now ≡ self.now.heading.height * (self.now.heading.width + 1) }
+        ensures { result ≡ ends_check self.now.heading sheet.now }
+    {
+        let heading = self.heading;
+        let cells = heading.width * heading.height;
+        if heading.start >= cells {
+            return Err(SiteFault::StartOffFloor(in_column(START)));
+        }
+        let row = heading.start / heading.width;
+        let column = heading.start % heading.width;
+        if sheet[(row * (heading.width + 1) + column) as usize] == ROCK {
+            return Err(SiteFault::StartOnRock(in_column(START)));
+        }
+        if heading.goal >= cells {
+            return Err(SiteFault::GoalOffFloor(in_column(GOAL)));
+        }
+        Ok(())
+    }
 }
 
 // The next line has this word alone.
+#[tactic(auto, unfolding(crate::specs::Site::word_alone))]
 fn check_word_alone(lines: &mut Lines<'_>, word: &str) -> Result<(), SiteFault>
     ensures checked { result ≡ word_alone lines.old.number (word_bytes word.now) lines.old.rest.now }
     ensures rest { lines.new.rest.now ≡ after_line lines.old.rest.now }
@@ -96,20 +143,8 @@ fn check_word_alone(lines: &mut Lines<'_>, word: &str) -> Result<(), SiteFault>
     Ok(())
 }
 
-// The next lines are the rows of the sheet.
-fn check_rows(lines: &mut Lines<'_>, heading: &Heading) -> Result<(), SiteFault>
-    requires { (heading.now.width ≤ 64) × (heading.now.height ≤ 64) × (lines.old.number ≡ 3) }
-    ensures checked { result ≡ rows_check heading.now.height heading.now.width 3 lines.old.rest.now }
-    ensures rest { OnOk result (lines.new.rest.now ≡ after_lines heading.now.height lines.old.rest.now) }
-    ensures number { OnOk result (lines.new.number ≡ heading.now.height + 3) }
-{
-    for _row in 0..heading.height {
-        check_row(&lines.due()?, heading.width as u16)?;
-    }
-    Ok(())
-}
-
 // A line of the sheet: its length, and then its bytes.
+#[tactic(auto, unfolding(crate::specs::Site::row_check))]
 fn check_row(line: &Line<'_>, width: u16) -> Result<(), SiteFault>
     ensures { result ≡ row_check width (line_text line.now) }
 {
@@ -122,33 +157,14 @@ fn check_marks(line: &Line<'_>) -> Result<(), SiteFault>
     requires { length line.now.bytes.now < 65536 }
     ensures { result ≡ marks_check (line_text line.now) 1 line.now.bytes.now }
 {
-    for (i, byte) in line.bytes.iter().enumerate() {
-        match *byte as char {
-            '.' | '#' => {}
-            _ => return Err(SiteFault::Foreign(line.place(i as u32 + 1))),
-        }
+    let foreign = line
+        .bytes
+        .iter()
+        .position(|byte| !matches!(*byte as char, '.' | '#'));
+    match foreign {
+        Some(i) => Err(SiteFault::Foreign(line.place(i as u32 + 1))),
+        None => Ok(()),
     }
-    Ok(())
-}
-
-// Start and goal are cells of the floor, and the start is not on rock.
-fn check_ends(heading: &Heading, sheet: &[u8]) -> Result<(), SiteFault>
-    requires { (heading.now.width ≤ 64) × (heading.now.height ≤ 64) × (length sheet.now ≡ heading.now.height * (heading.now.width + 1)) }
-    ensures { result ≡ ends_check heading.now sheet.now }
-{
-    let cells = heading.width * heading.height;
-    if heading.start >= cells {
-        return Err(SiteFault::StartOffFloor(in_column(START)));
-    }
-    let row = heading.start / heading.width;
-    let column = heading.start % heading.width;
-    if sheet[(row * (heading.width + 1) + column) as usize] == ROCK {
-        return Err(SiteFault::StartOnRock(in_column(START)));
-    }
-    if heading.goal >= cells {
-        return Err(SiteFault::GoalOffFloor(in_column(GOAL)));
-    }
-    Ok(())
 }
 
 #[cfg(test)]
@@ -171,7 +187,7 @@ mod tests {
                 line: 0,
                 column: 0,
             },
-            Err(fault) => fault.report(),
+            Err(fault) => Report::from(fault),
         })
     }
 

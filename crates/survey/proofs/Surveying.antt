@@ -1,28 +1,13 @@
 -- What was read and driven is filed.
-use Rattle.std.proofs.Common.{◌≡◌, ℕ, ◌+◌, ◌*◌, ◌≤◌, List, length, IfOk, Ok, Err, Result, ap, subst, arith}
-use Rattle.sites.specs.declared.fault.SiteFault.{SiteFault}
+use Rattle.std.proofs.Common.{◌≡◌, ℕ, ◌+◌, ◌*◌, ◌≤◌, List, length, IfOk, Ok, Err, Result, ap, arith}
 use Rattle.texts.specs.declared.heading.Heading.{Heading}
 use Rattle.filing.specs.declared.pen.Ending.TheVariants.{Done}
 use Rattle.filing.specs.declared.pen.Pen.{Pen}
 use Rattle.filing.specs.Pen.{begin_lines, last_line}
-use Rattle.sites.specs.Site.{SiteValue}
 use Rattle.filing.specs.Written.{overwritten}
 use Rattle.filing.proofs.Filed.{penned_closed}
 use Rattle.survey.specs.declared.fault.Fault.{Fault}
-use Rattle.survey.specs.Surveying.{SiteFirst, Filed, Course}
-
--- a text that describes a site
-pub of_a_site : (o : Result SiteValue SiteFault) (s : SiteValue) (before after : List ℕ) (r : Result ℕ Fault) →
-    Ok s ≡ o → IfOk r (λ bytes. Filed s.heading before after bytes) → SiteFirst o before after r
-of_a_site (Ok v) s before after r e filed =
-    let same : s ≡ v = cc in
-    subst (λ x. IfOk r (λ bytes. Filed x.heading before after bytes)) same filed
-of_a_site (Err f) s before after r e filed = absurd (let z : ◌≡◌ {A = ℕ} 0 1 = cc in omega arith)
-
--- what is filed fits the buffer
-pub filed_within : (h : Heading) (before after : List ℕ) (r : Result ℕ Fault) → IfOk r (λ bytes. Filed h before after bytes) → IfOk r (λ bytes. bytes ≤ length before)
-filed_within h before after (Ok bytes) filed = filed.within
-filed_within h before after (Err f) filed = tt
+use Rattle.survey.specs.Surveying.{Filed, Course}
 
 -- a course that is closed is a record
 pub closed_course : (h : Heading) (start begun buffer last : List ℕ) (pen : Pen) (rock : ℕ) (r : Result ℕ Fault) →

@@ -7,12 +7,12 @@ use Rattle.sites.specs.declared.fault.SiteFault.{SiteFault}
 use Rattle.sites.specs.Faults.{site_report}
 use Rattle.sites.specs.Site.{SiteValue}
 use Rattle.survey.specs.declared.fault.Failure.{Failure}
-use Rattle.survey.specs.Faults.{site_layer}
+use Rattle.survey.specs.Faults.{layer_number, site_layer}
 use Rattle.survey.specs.Surveying.{Filed}
 
 -- the word FAIL and four fields: layer, number, line and column
 abbrev pub fail_line : Failure → List ℕ
-fail_line f = written_line (70 ∷ 65 ∷ 73 ∷ 76 ∷ []) (f.layer ∷ f.report.number ∷ f.report.line ∷ f.report.column ∷ [])
+fail_line f = written_line (70 ∷ 65 ∷ 73 ∷ 76 ∷ []) (layer_number f.layer ∷ f.report.number ∷ f.report.line ∷ f.report.column ∷ [])
 
 -- the line of a failure stands at the front of a buffer, in so many bytes, where it fits; the rest is as it was
 pub record Failed (failure : Failure) (before after : List ℕ) (bytes : ℕ) : Type 0 where

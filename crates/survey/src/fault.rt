@@ -1,7 +1,9 @@
 // What can keep a site from being driven and filed. A fault holds the fault of the layer below it.
 ghost use Rattle.std.specs.Prelude.{◌≡◌};
+ghost use Rattle.std.specs.Result.{result_ok};
+ghost use Rattle.sites.specs.declared.fault.SiteFault.TheVariants as site-fault;
 ghost use Rattle.survey.specs.declared.fault.Fault.TheVariants as the-fault;
-ghost use Rattle.survey.specs.Faults.{failure_of, size_fault_of};
+ghost use Rattle.survey.specs.Faults.{failure_of, layer_number, size_fault_of};
 
 use drive::refusal::Refusal;
 use filing::fault::PenFault;
@@ -9,7 +11,6 @@ use floor::extent::SizeFault;
 use sites::fault::SiteFault;
 use std::alloc::AllocError;
 use texts::fault::{HeadingFault, Report};
-use texts::heading::{HEIGHT, WIDTH, in_column};
 
 #[derive(Clone, Copy, PartialEq, Eq, Debug)]
 pub enum Fault {
@@ -23,42 +24,45 @@ pub enum Fault {
     NoMemory,
 }
 
+// The layers of which a fault is one, by the numbers that the program prints.
+#[derive(Clone, Copy, PartialEq, Eq, Debug)]
+pub enum Layer {
+    Text = 1,
+    Site = 2,
+    Drive = 3,
+    Record = 4,
+}
+
+impl Layer {
+    pub fn number(self) -> u32
+        ensures { result ≡ layer_number self }
+    {
+        self as u32
+    }
+}
+
 // A fault as the program prints it.
 #[derive(Clone, Copy, PartialEq, Eq, Debug)]
 pub struct Failure {
-    // 1 the text, 2 the site, 3 the drive, 4 the record
-    pub layer: u32,
+    pub layer: Layer,
     pub report: Report,
 }
 
-impl Fault {
-    // Want of memory is not printed as a fault of the site.
-    pub fn failure(&self) -> Option<Failure>
-        ensures { result ≡ failure_of self.now }
-    {
-        match *self {
-            Fault::Site(SiteFault::Text(fault)) => Some(Failure {
-                layer: 1,
-                report: fault.report(),
-            }),
-            Fault::Site(fault) => Some(Failure {
-                layer: 2,
-                report: fault.report(),
-            }),
-            Fault::Drive(refusal) => Some(Failure {
-                layer: 3,
-                report: Report {
-                    number: refusal.number(),
-                    line: 0,
-                    column: 0,
-                },
-            }),
-            Fault::Record(fault) => Some(Failure {
-                layer: 4,
-                report: fault.report(),
-            }),
-            Fault::NoMemory => None,
-        }
+// Want of memory is not printed as a fault of the site.
+impl TryFrom<Fault> for Failure {
+    type Error = AllocError;
+
+    ghost try_from_gives = { λ fault r. result_ok r ≡ failure_of fault };
+
+    fn try_from(fault: Fault) -> Result<Failure, AllocError> {
+        let (layer, report) = match fault {
+            Fault::Site(SiteFault::Text(fault)) => (Layer::Text, Report::from(fault)),
+            Fault::Site(fault) => (Layer::Site, Report::from(fault)),
+            Fault::Drive(refusal) => (Layer::Drive, Report::nowhere(refusal.number())),
+            Fault::Record(fault) => (Layer::Record, Report::from(fault)),
+            Fault::NoMemory => return Err(AllocError),
+        };
+        Ok(Failure { layer, report })
     }
 }
 
@@ -75,6 +79,14 @@ impl From<SiteFault> for Fault {
 
     fn from(inner: SiteFault) -> Fault {
         Fault::Site(inner)
+    }
+}
+
+impl From<HeadingFault> for Fault {
+    ghost from_gives = { λ fault r. r ≡ the-fault.Site (site-fault.Heading fault) };
+
+    fn from(inner: HeadingFault) -> Fault {
+        Fault::Site(SiteFault::from(inner))
     }
 }
 
@@ -99,10 +111,6 @@ impl From<SizeFault> for Fault {
     ghost from_gives = { λ fault r. r ≡ size_fault_of fault };
 
     fn from(fault: SizeFault) -> Fault {
-        let column = match fault {
-            SizeFault::Width => WIDTH,
-            SizeFault::Height => HEIGHT,
-        };
-        Fault::Site(SiteFault::Heading(HeadingFault::Size(in_column(column))))
+        Fault::from(HeadingFault::from(fault))
     }
 }

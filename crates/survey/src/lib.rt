@@ -4,3 +4,4 @@
 pub mod course;
 pub mod fault;
 pub mod printing;
+mod trip;

@@ -5,31 +5,34 @@ ghost use Rattle.survey.specs.Printing.{Failed, Printed};
 
 use crate::course::survey;
 use crate::fault::Failure;
-use filing::write::line;
+use filing::write;
 use std::alloc::{AllocError, Global};
+use texts::fault::Report;
 
 // Writes the record of a site's drive, or the line of its fault, into the buffer: the number of bytes to print.
 pub fn print(heap: Global, text: &[u8], buffer: &mut [u8]) -> Result<usize, AllocError>
     ensures printed { IfOk result (λ bytes. Printed (site_of text.now) buffer.old buffer.new bytes) }
     ensures within { IfOk result (λ bytes. bytes ≤ length buffer.old) }
 {
+    // A match, since the check did not find what a closure leaves in the buffer.
     match survey(heap, text, buffer) {
         Ok(bytes) => Ok(bytes),
-        Err(fault) => match fault.failure() {
-            Some(failure) => Ok(fail(buffer, &failure)),
-            None => Err(AllocError),
-        },
+        Err(fault) => Ok(fail(buffer, &Failure::try_from(fault)?)),
     }
 }
 
-// Writes the line of a failure, if it fits.
+// Writes the line of a failure, if it fits, as lines of a record are written.
 fn fail(buffer: &mut [u8], failure: &Failure) -> usize
     ensures failed { Failed failure.now buffer.old buffer.new result }
     ensures within { result ≤ length buffer.old }
 {
-    let report = failure.report;
-    let fields = [failure.layer, report.number, report.line, report.column];
-    line(buffer, 0, b"FAIL", &fields).unwrap_or(0)
+    let Report {
+        number,
+        line,
+        column,
+    } = failure.report;
+    let fields = [failure.layer.number(), number, line, column];
+    write::line(buffer, 0, b"FAIL", &fields).unwrap_or(0)
 }
 
 #[cfg(test)]

@@ -1,10 +1,11 @@
 -- Where the first line of a text ends, and lines put together again.
-use Rattle.std.proofs.Common.{◌≡◌, ℕ, zero, suc, ◌+◌, ◌-◌, ◌<◌, ◌≤◌, Bool, true, false, cond, ◌||◌, eqb, ltb, List, [], ◌∷◌, ◌++◌, length, take, drop, Some, Ok, Result, sym, refl, ap, ◌∙◌, add-one, arith}
-use Rattle.std.specs.Option.{ok_or}
-use Rattle.std.proofs.lemmas.List.{take_rest, drop_all, length-drop}
+use Rattle.std.proofs.Common.{◌≡◌, ℕ, zero, suc, ◌+◌, ◌<◌, ◌≤◌, Bool, true, false, cond, ◌||◌, eqb, ltb, List, [], ◌∷◌, ◌++◌, length, take, drop, Some, Ok, sym, refl, ap, ◌∙◌, add-one, arith, ◌⊎◌, inl, inr, None, Option}
+use denote.Ref.{Bor}
+use Rattle.std.specs.Option.{MatchOption, ok_or, unwrap_or}
+use Rattle.std.specs.List.{slice_range}
+use Rattle.std.proofs.lemmas.List.{nil_from_length, drop-drop, take_rest, drop_all, length-drop}
 use Rattle.std.proofs.lemmas.Bool.{true≢false, false≢true, eqb-true, or_right}
 use Rattle.std.proofs.lemmas.Bool.Decides.{nat_tests}
-use Rattle.texts.specs.declared.fault.TextFault.{TextFault}
 use Rattle.texts.specs.declared.fault.TextFault.TheVariants.{Extent}
 use Rattle.texts.specs.Lines.{TextLine, line_of, line_ended, after_line, next_number, first_line, due_line, end_check, lines_up_to, lines_of}
 
@@ -45,19 +46,25 @@ ended_is_short (b ∷ bs) = by (eqb b 10) (ended_is_short bs)
     by false h = h ∙ grind (arith, nat_tests)
 
 -- a line that is cut off, and what is left, if k bytes are before its end
-pub cut_line : (n k : ℕ) (t bytes : List ℕ) → eqb (length t) 0 ≡ false → k ≡ length (line_of t) → bytes ≡ take k t → Some (record { number = n; bytes = bytes; ended = ltb k (length t) }) ≡ first_line n t
-cut_line n k [] bytes h e f = absurd (true≢false h)
-cut_line n k (b ∷ bs) bytes h e f =
+pub cut_line : (n k : ℕ) (t bytes : List ℕ) (ended : Bool) → eqb (length t) 0 ≡ false → k ≡ length (line_of t) → bytes ≡ take k t → ended ≡ ltb k (length t) → Some (record { number = n; bytes = bytes; ended = ended }) ≡ first_line n t
+cut_line n k [] bytes ended h e f g = absurd (true≢false h)
+cut_line n k (b ∷ bs) bytes ended h e f g =
     let t : List ℕ = b ∷ bs in
     let same : bytes ≡ line_of t = f ∙ ap (λ j. take j t) e ∙ sym (line_is_front t) in
-    let told : ltb k (length t) ≡ line_ended t = ap (λ j. ltb j (length t)) e ∙ sym (ended_is_short t) in
+    let told : ended ≡ line_ended t = g ∙ ap (λ j. ltb j (length t)) e ∙ sym (ended_is_short t) in
     λ i. Some (record { number = n; bytes = same i; ended = told i })
 
-pub cut_ended : (k : ℕ) (t : List ℕ) → k ≡ length (line_of t) → take (length t - (k + 1)) (drop (k + 1) t) ≡ after_line t
-cut_ended k t e = take_rest t (k + 1) ∙ ap (λ j. drop (j + 1) t) e ∙ sym (after_is_back t)
+pub cut_rest : (k : ℕ) (t behind : List ℕ) → k ≡ length (line_of t) → behind ≡ drop k t → drop 1 behind ≡ after_line t
+cut_rest k t behind e f = ap (λ (x : List ℕ). drop 1 x) f ∙ drop-drop 1 k t ∙ ap (λ j. drop (j + 1) t) e ∙ sym (after_is_back t)
 
-pub cut_unended : (k : ℕ) (t : List ℕ) → k ≡ length (line_of t) → length t ≤ k → take (length t - k) (drop k t) ≡ after_line t
-cut_unended k t e h = take_rest t k ∙ drop_all k t h ∙ sym (drop_all (k + 1) t (omega arith)) ∙ ap (λ j. drop (j + 1) t) e ∙ sym (after_is_back t)
+-- what `get(1..)` gives of bytes, and else the bytes themselves, of which there are none then
+pub past_first : (o : Option (Bor (List ℕ))) (b : Bor (List ℕ)) → MatchOption o ((length b.now < 1) ⊎ (length b.now < length b.now)) (λ x. (1 ≤ length b.now) × (length b.now ≤ length b.now) × (x.now ≡ slice_range b.now 1 (length b.now)) × (length x.now + 1 ≡ length b.now)) → (unwrap_or o b).now ≡ drop 1 b.now
+past_first (Some x) b h = h.2 ∙ take_rest b.now 1
+past_first None b h = nil_from_length b.now (few h) ∙ sym (drop_all 1 b.now (omega (arith, few h)))
+  where
+    few : (length b.now < 1) ⊎ (length b.now < length b.now) → length b.now ≡ 0
+    few (inl l) = omega arith
+    few (inr l) = absurd (omega arith)
 
 -- ---- bytes without a byte 10, and the byte 10 behind them
 
@@ -107,28 +114,22 @@ whole_line (b ∷ bs) e = by (eqb b 10) refl e (whole_line bs)
 
 -- the first line, where one is due
 pub due_is : (n : ℕ) (b : ℕ) (bs : List ℕ) (l : TextLine) → due_line n (b ∷ bs) ≡ Ok l → record { number = n; bytes = line_of (b ∷ bs); ended = line_ended (b ∷ bs) } ≡ l
-due_is n b bs l e = taken e
-  where
-    taken : {x : TextLine} → ◌≡◌ {A = Result TextLine TextFault} (Ok x) (Ok l) → x ≡ l
-    taken {x} h = cc
-
-pub none_due : {n : ℕ} {l : TextLine} → due_line n [] ≡ Ok l → ⊥
-none_due {n} {l} e = let z : ◌≡◌ {A = ℕ} 0 1 = cc in omega arith
+due_is n b bs l e = cc e
 
 pub due_whole : (n : ℕ) (t : List ℕ) (l : TextLine) → due_line n t ≡ Ok l → l.ended ≡ true → t ≡ l.bytes ++ 10 ∷ after_line t
-due_whole n [] l d e = absurd (none_due d)
+due_whole n [] l d e = absurd cc
 due_whole n (b ∷ bs) l d e =
     let same = due_is n b bs l d in
     whole_line (b ∷ bs) (ap (λ (x : TextLine). x.ended) same ∙ e)
     ∙ ap (λ (x : TextLine). x.bytes ++ 10 ∷ after_line (b ∷ bs)) same
 
 pub due_shorter : (n : ℕ) (t : List ℕ) (l : TextLine) → due_line n t ≡ Ok l → length (after_line t) < length t
-due_shorter n [] l d = absurd (none_due d)
+due_shorter n [] l d = absurd cc
 due_shorter n (b ∷ bs) l d = let cut = ap (λ (x : List ℕ). length x) (after_is_back (b ∷ bs)) ∙ length-drop (length (line_of (b ∷ bs)) + 1) (b ∷ bs) in omega arith
 
 pub nothing_behind : (n : ℕ) (t : List ℕ) {u : Unit {0}} → end_check n t ≡ Ok u → t ≡ []
 nothing_behind n [] e = refl
-nothing_behind n (b ∷ bs) {u} e = let z : ◌≡◌ {A = ℕ} 0 1 = cc in absurd (omega arith)
+nothing_behind n (b ∷ bs) {u} e = absurd cc
 
 -- ---- all lines of a text
 
@@ -147,7 +148,7 @@ lines_enough k n t h = by k (length t) n t h (omega arith)
         ap (λ (ls : List TextLine). record { number = n; bytes = line_of (b ∷ bs); ended = line_ended (b ∷ bs) } ∷ ls) (by j k (next_number n) (after_line (b ∷ bs)) (omega arith) (omega arith))
 
 pub lines_more : (n : ℕ) (t : List ℕ) (l : TextLine) → due_line n t ≡ Ok l → lines_of n t ≡ l ∷ lines_of (next_number n) (after_line t)
-lines_more n [] l d = absurd (none_due d)
+lines_more n [] l d = absurd cc
 lines_more n (b ∷ bs) l d =
     let less = due_shorter n (b ∷ bs) l d in
     ap (λ (ls : List TextLine). record { number = n; bytes = line_of (b ∷ bs); ended = line_ended (b ∷ bs) } ∷ ls) (lines_enough (length bs) (next_number n) (after_line (b ∷ bs)) (omega arith))

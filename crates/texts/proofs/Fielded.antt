@@ -93,7 +93,7 @@ module _ (l : TextLine) (c n : ℕ) (e : field_number l c ≡ Ok n) where
     where
       some : (o : Option ℕ) → ok_or o (Field (in_line l c)) ≡ Ok n → o ≡ Some n
       some (Some m) h = cc
-      some None h = let z : ◌≡◌ {A = ℕ} 0 1 = cc in absurd (omega arith)
+      some None h = absurd cc
 
   pub field_small : n < 2 ^ 32
   field_small = field_read.1
@@ -133,9 +133,6 @@ module _ (l : TextLine) (word ns : List ℕ) (w : Written l word ns) where
   pub written_holds : (c : ℕ) → length word ≡ c - 1 → Holds l c ns
   written_holds c e = record { same = ap (λ (x : List ℕ). drop (c - 1) x) w.bytes ∙ drop_at word (fields_text ns) (c - 1) e }
 
-clash : {x : Unit {0}} {f : TextFault} → Err f ≡ Ok x → ⊥
-clash {x} {f} e = let z : ◌≡◌ {A = ℕ} 0 1 = cc in omega arith
-
 -- a line that passed the check of its word
 pub record Worded (l : TextLine) (word : List ℕ) (k : ℕ) : Type 0 where
   pub front : take (length word) l.bytes ≡ word
@@ -147,8 +144,8 @@ unfolding word_check
 word_read l word k e = by (ltb (length l.bytes) (length word)) (bytes_eq (take (length word) l.bytes) word) (bytes_eq-Decides (take (length word) l.bytes) word) e
   where
     by : {u : Unit {0}} (a b : Bool) → Decides b (take (length word) l.bytes ≡ word) → cond a (Err (Length (in_line l (length l.bytes + 1)))) (cond (not b) (Err (Word (in_line l 1))) (length_check l (length word + 10 * k))) ≡ Ok u → Worded l word k
-    by true b d h = absurd (clash h)
-    by false false d h = absurd (clash h)
+    by true b d h = absurd cc
+    by false false d h = absurd cc
     by {u} false true d h = let right = right_length l (length word + 10 * k) (sym h) in record { front = d.0 refl; size = right.0; ended = right.1 }
 
 pub word_back : (l : TextLine) (word ns : List ℕ) (k : ℕ) → Worded l word k → Holds l (length word + 1) ns → Written l word ns

@@ -95,11 +95,7 @@ read_columns (suc p) n z = by (cases_eq (front n (suc p)) 0) (read_columns p n)
         ∙ ap (λ v. digits_from v (columns (suc p) n)) (omega arith)
         ∙ read_digits (suc p) n (inl (omega arith))
 
--- what is read is what is written
-is_some : {n : ℕ} → None ≡ Some n → ⊥
-is_some {n} e = let z : ◌≡◌ {A = ℕ} 0 1 = cc in omega arith
-
--- digits behind a number v, of which the first is no leading zero
+-- what is read is what is written: digits behind a number v, of which the first is no leading zero
 abbrev Led : ℕ → List ℕ → Type 0
 Led v [] = Unit {0}
 Led v (b ∷ bs) = (0 < v * 10 + (b - 48)) ⊎ (length bs ≡ 0)
@@ -137,7 +133,7 @@ behind v [] n e = record { same = λ h. refl; leads = front_zero n ∙ cc }
 behind v (b ∷ bs) n e = by (is_digit b) refl e (behind (v * 10 + (b - 48)) bs n)
   where
     by : (t : Bool) → is_digit b ≡ t → cond t (digits_from (v * 10 + (b - 48)) bs) None ≡ Some n → (digits_from (v * 10 + (b - 48)) bs ≡ Some n → Behind (v * 10 + (b - 48)) bs n) → Behind v (b ∷ bs) n
-    by false d h rest = absurd (is_some h)
+    by false d h rest = absurd cc
     by true d h rest = digit_written v b bs n d (rest h)
 
 -- a field: its columns, and that there are digits enough for its number
@@ -147,14 +143,10 @@ record Field (f : List ℕ) (n : ℕ) : Type 0 where
   some : 0 < length f
 
 first_is_digit : (v b : ℕ) (bs : List ℕ) (n : ℕ) → digits_from v (b ∷ bs) ≡ Some n → 48 ≤ b
-first_is_digit v b bs n e = by (is_digit b) refl e
-  where
-    by : (t : Bool) → is_digit b ≡ t → cond t (digits_from (v * 10 + (b - 48)) bs) None ≡ Some n → 48 ≤ b
-    by false d h = absurd (is_some h)
-    by true d h = leb-true 48 b (and_parts (leb 48 b) (leb b 57) d).0
+first_is_digit v b bs n e = grind (arith, nat_tests)
 
 numeral_written : (ds : List ℕ) (n : ℕ) → numeral ds ≡ Some n → Field ds n
-numeral_written [] n e = absurd (is_some e)
+numeral_written [] n e = absurd cc
 numeral_written (b ∷ bs) n e = by (eqb b 48) (ltb 0 (length bs)) refl refl e
   where
     led : 48 ≤ b → (eqb b 48 ≡ false) ⊎ (length bs ≡ 0) → Led 0 (b ∷ bs)
@@ -165,7 +157,7 @@ numeral_written (b ∷ bs) n e = by (eqb b 48) (ltb 0 (length bs)) refl refl e
     read h g = let r = behind 0 (b ∷ bs) n g in record { same = r.same (led (first_is_digit 0 b bs n g) h); small = r.leads; some = omega arith }
 
     by : (t u : Bool) → eqb b 48 ≡ t → ltb 0 (length bs) ≡ u → cond (t && u) None (digits_from 0 (b ∷ bs)) ≡ Some n → Field (b ∷ bs) n
-    by true true p q h = absurd (is_some h)
+    by true true p q h = absurd cc
     by true false p q h = read (inr (omega (arith, ltb-false 0 (length bs) q))) h
     by false u p q h = read (inl p) h
 
@@ -176,7 +168,7 @@ blank_written b bs n e r =
     record { same = λ i. c i ∷ cs i; small = front_suc n (length bs) ∙ ap (λ k. k / 10) r.small; some = omega arith }
 
 columns_written : (f : List ℕ) (n : ℕ) → numeral (behind_blanks f) ≡ Some n → Field f n
-columns_written [] n e = absurd (is_some e)
+columns_written [] n e = absurd cc
 columns_written (b ∷ bs) n e = by (eqb b 32) refl e (columns_written bs n)
   where
     by : (t : Bool) → eqb b 32 ≡ t → numeral (cond t (behind_blanks bs) (b ∷ bs)) ≡ Some n → (numeral (behind_blanks bs) ≡ Some n → Field bs n) → Field (b ∷ bs) n
@@ -185,12 +177,7 @@ columns_written (b ∷ bs) n e = by (eqb b 32) refl e (columns_written bs n)
 
 -- the law, both ways
 within : (o : Option ℕ) (n : ℕ) → up_to 4294967295 o ≡ Some n → (o ≡ Some n) × (n < 2 ^ 32)
-within None n e = absurd (is_some e)
-within (Some m) n e = by (leb m 4294967295) refl e
-  where
-    by : (t : Bool) → leb m 4294967295 ≡ t → cond t (Some m) None ≡ Some n → (Some m ≡ Some n) × (n < 2 ^ 32)
-    by true p h = let g : m ≡ n = cc in (h, omega (arith, leb-true m 4294967295 p))
-    by false p h = absurd (is_some h)
+within o n e = (grind (arith, nat_tests), grind (arith, nat_tests))
 
 ten_written : (f : List ℕ) (n : ℕ) → length f ≡ 10 → Field f n → f ≡ field_text n
 unfolding field_text
@@ -202,7 +189,7 @@ reads f n = (read (eqb (length f) 10) refl, written)
   where
     read : (t : Bool) → eqb (length f) 10 ≡ t → cond t (up_to 4294967295 (numeral (behind_blanks f))) None ≡ Some n → (f ≡ field_text n) × (n < 2 ^ 32)
     read true p h = let w = within (numeral (behind_blanks f)) n h in (ten_written f n (eqb-true (length f) 10 p) (columns_written f n w.0), w.1)
-    read false p h = absurd (is_some h)
+    read false p h = absurd cc
 
     written : f ≡ field_text n → n < 2 ^ 32 → number_of f ≡ Some n
     written e l =

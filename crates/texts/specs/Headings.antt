@@ -1,5 +1,7 @@
 -- What the first line of a site text or a record has to say.
 use Rattle.std.specs.Prelude.{ℕ, ◌-◌, ◌*◌, Bool, cond, not, ◌&&◌, ◌||◌, List, [], ◌∷◌, Some, None, Ok, Err, Option, Result, ◌==◌, nat_le}
+use Rattle.floor.specs.declared.extent.SizeFault.{SizeFault}
+use Rattle.floor.specs.declared.extent.SizeFault.TheVariants as side
 use Rattle.texts.specs.declared.fault.Place.{Place}
 use Rattle.texts.specs.declared.fault.HeadingFault.{HeadingFault}
 use Rattle.texts.specs.declared.fault.HeadingFault.TheVariants.{Unknown, Size}
@@ -33,6 +35,11 @@ known_measure n = n == 1 || n == 2
 
 abbrev pub a_side : ℕ → Bool
 a_side n = nat_le 1 n && nat_le n 64
+
+-- the fault of a width or height that is no floor's, in its field
+abbrev pub side_fault : SizeFault → HeadingFault
+side_fault side.Width = Size (heading_field 1)
+side_fault side.Height = Size (heading_field 2)
 
 -- neighbours and measure are known, and then width and height are those of a floor
 abbrev pub heading_check : Heading → Result (Unit {0}) HeadingFault

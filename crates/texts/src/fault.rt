@@ -32,6 +32,7 @@ pub enum HeadingFault {
 }
 
 // A fault by its number, and by line and column, which are 0 where it has none.
+// Numbers and no options, since this is what a program prints.
 #[derive(Clone, Copy, PartialEq, Eq, Debug)]
 pub struct Report {
     pub number: u32,
@@ -63,11 +64,11 @@ impl Report {
     }
 }
 
-impl TextFault {
-    pub fn report(&self) -> Report
-        ensures { result ≡ text_report self.now }
-    {
-        match *self {
+impl From<TextFault> for Report {
+    ghost from_gives = { λ fault r. r ≡ text_report fault };
+
+    fn from(fault: TextFault) -> Report {
+        match fault {
             TextFault::Length(place) => Report::at(20, place),
             TextFault::Word(place) => Report::at(21, place),
             TextFault::Field(place) => Report::at(22, place),
@@ -76,11 +77,11 @@ impl TextFault {
     }
 }
 
-impl HeadingFault {
-    pub fn report(&self) -> Report
-        ensures { result ≡ heading_report self.now }
-    {
-        match *self {
+impl From<HeadingFault> for Report {
+    ghost from_gives = { λ fault r. r ≡ heading_report fault };
+
+    fn from(fault: HeadingFault) -> Report {
+        match fault {
             HeadingFault::Unknown(place) => Report::at(24, place),
             HeadingFault::Size(place) => Report::at(1, place),
         }

@@ -44,6 +44,7 @@ impl<'a> Line<'a> {
 }
 
 // The number in a field, or `None` if the columns are no field.
+#[tactic(auto, unfolding(crate::specs::Numerals::number_of))]
 pub fn read(columns: &[u8]) -> Option<u32>
     ensures value { result ≡ number_of columns.now }
     ensures law { Reads columns.now result }
@@ -60,12 +61,10 @@ fn blanks(columns: &[u8]) -> usize
     ensures within { result ≤ length columns.now }
     ensures behind { drop result columns.now ≡ behind_blanks columns.now }
 {
-    for (i, byte) in columns.iter().enumerate() {
-        if *byte != BLANK {
-            return i;
-        }
-    }
-    columns.len()
+    columns
+        .iter()
+        .position(|byte| *byte != BLANK)
+        .unwrap_or(columns.len())
 }
 
 // The number that stands here, with no leading zero but 0 itself.
@@ -86,10 +85,7 @@ fn value(digits: &[u8]) -> Option<u64>
 {
     let mut value = 0;
     for digit in digits {
-        if !digit.is_ascii_digit() {
-            return None;
-        }
-        value = value * 10 + u64::from(*digit - b'0');
+        value = value * 10 + u64::from((*digit as char).to_digit(10)?);
     }
     Some(value)
 }

@@ -1,14 +1,17 @@
 // The six numbers on the first line of a site text and of a record.
-ghost use Rattle.std.specs.Prelude.{◌≡◌};
+ghost use Rattle.std.specs.Prelude.{◌≡◌, ok_or};
+ghost use Rattle.texts.specs.declared.fault.HeadingFault.TheVariants.{Unknown};
 ghost use Rattle.texts.specs.FirstLines.{heading_of};
-ghost use Rattle.texts.specs.Headings.{heading_check, lattice_kind, measure_kind};
+ghost use Rattle.texts.specs.Headings.{heading_check, heading_field, lattice_kind, measure_kind, side_fault};
 ghost use Rattle.texts.specs.Lines.{line_text};
 ghost use Rattle.texts.specs.Words.{word_bytes};
 
 use crate::fault::{HeadingFault, Place, TextFault};
 use crate::lines::Line;
+use floor::extent::{Extent, SizeFault};
 
 // The numbers as they stand on the line: neighbours is 4 or 8, and measure 1 or 2, in one that is accepted.
+// Plain numbers and no kinds, since a record with a number that names none has to be refused.
 #[derive(Clone, Copy, PartialEq, Eq, Debug)]
 pub struct Heading {
     pub width: u32,
@@ -18,9 +21,6 @@ pub struct Heading {
     pub neighbours: u32,
     pub measure: u32,
 }
-
-// The largest width and height of a floor.
-const MOST: u32 = 64;
 
 // Where the fields of the first line begin, behind a word of four letters.
 pub const WIDTH: u32 = 5;
@@ -52,30 +52,69 @@ pub enum MeasureKind {
     Sure,
 }
 
+// A number that names no kind.
+#[derive(Clone, Copy, PartialEq, Eq, Debug)]
+pub struct UnknownKind;
+
+impl TryFrom<u32> for LatticeKind {
+    type Error = UnknownKind;
+
+    ghost try_from_gives = { λ neighbours r. r ≡ ok_or (lattice_kind neighbours) (record {}) };
+
+    fn try_from(neighbours: u32) -> Result<LatticeKind, UnknownKind> {
+        match neighbours {
+            4 => Ok(LatticeKind::Streets),
+            8 => Ok(LatticeKind::Kings),
+            _ => Err(UnknownKind),
+        }
+    }
+}
+
+impl TryFrom<u32> for MeasureKind {
+    type Error = UnknownKind;
+
+    ghost try_from_gives = { λ measure r. r ≡ ok_or (measure_kind measure) (record {}) };
+
+    fn try_from(measure: u32) -> Result<MeasureKind, UnknownKind> {
+        match measure {
+            1 => Ok(MeasureKind::Length),
+            2 => Ok(MeasureKind::Sure),
+            _ => Err(UnknownKind),
+        }
+    }
+}
+
+// A side that is no floor's is at fault in its field.
+impl From<SizeFault> for HeadingFault {
+    ghost from_gives = { λ fault r. r ≡ side_fault fault };
+
+    fn from(fault: SizeFault) -> HeadingFault {
+        HeadingFault::Size(in_column(match fault {
+            SizeFault::Width => WIDTH,
+            SizeFault::Height => HEIGHT,
+        }))
+    }
+}
+
 impl Heading {
     // The lattice with so many neighbours.
-    pub fn lattice(&self) -> Option<LatticeKind>
-        ensures { result ≡ lattice_kind self.now.neighbours }
+    pub fn lattice(&self) -> Result<LatticeKind, HeadingFault>
+        ensures { result ≡ ok_or (lattice_kind self.now.neighbours) (Unknown (heading_field 5)) }
     {
-        match self.neighbours {
-            4 => Some(LatticeKind::Streets),
-            8 => Some(LatticeKind::Kings),
-            _ => None,
-        }
+        let unknown = HeadingFault::Unknown(in_column(NEIGHBOURS));
+        LatticeKind::try_from(self.neighbours).map_err(|_| unknown)
     }
 
     // The measure of this number.
-    pub fn measured_by(&self) -> Option<MeasureKind>
-        ensures { result ≡ measure_kind self.now.measure }
+    pub fn measured_by(&self) -> Result<MeasureKind, HeadingFault>
+        ensures { result ≡ ok_or (measure_kind self.now.measure) (Unknown (heading_field 6)) }
     {
-        match self.measure {
-            1 => Some(MeasureKind::Length),
-            2 => Some(MeasureKind::Sure),
-            _ => None,
-        }
+        let unknown = HeadingFault::Unknown(in_column(MEASURE));
+        MeasureKind::try_from(self.measure).map_err(|_| unknown)
     }
 
     // The numbers on a first line that begins with this word.
+    #[tactic(auto, unfolding(crate::specs::FirstLines::heading_of))]
     pub fn read(line: &Line<'_>, word: &str) -> Result<Heading, TextFault>
         ensures { result ≡ heading_of (line_text line.now) (word_bytes word.now) }
     {
@@ -94,18 +133,9 @@ impl Heading {
     pub fn check(&self) -> Result<(), HeadingFault>
         ensures { result ≡ heading_check self.now }
     {
-        if self.lattice().is_none() {
-            return Err(HeadingFault::Unknown(in_column(NEIGHBOURS)));
-        }
-        if self.measured_by().is_none() {
-            return Err(HeadingFault::Unknown(in_column(MEASURE)));
-        }
-        if self.width < 1 || self.width > MOST {
-            return Err(HeadingFault::Size(in_column(WIDTH)));
-        }
-        if self.height < 1 || self.height > MOST {
-            return Err(HeadingFault::Size(in_column(HEIGHT)));
-        }
+        self.lattice()?;
+        self.measured_by()?;
+        Extent::new(self.width, self.height)?;
         Ok(())
     }
 }

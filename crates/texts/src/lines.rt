@@ -1,5 +1,6 @@
 // The lines of a text, handed out one by one as parts of it, and numbered from 1.
 ghost use Rattle.std.specs.Prelude.{◌≡◌, length, is_some, is_ok, if◌then◌else◌};
+ghost use Rattle.std.specs.Iterator.{at_most};
 ghost use Rattle.std.specs.Option.{option_map};
 ghost use Rattle.std.specs.Result.{result_map_both as each_mapped};
 ghost use Rattle.texts.specs.Lines.{line_of, after_line, next_number, line_text, in_line, first_line, due_line, end_check};
@@ -10,6 +11,7 @@ use crate::fault::{Place, TextFault};
 const END_OF_LINE: u8 = 10;
 
 // A line: its bytes without the byte that ends it, and whether there is one.
+// A flag beside the bytes, since an unended line has bytes too.
 #[derive(Clone, Copy)]
 pub struct Line<'a> {
     pub number: u32,
@@ -53,31 +55,6 @@ impl<'a> Lines<'a> {
         self.rest
     }
 
-    // The next line, or `None` if no byte is left.
-    pub fn next(&mut self) -> Option<Line<'a>>
-        ensures line { option_map line_text result ≡ first_line self.old.number self.old.rest.now }
-        ensures rest { self.new.rest.now ≡ after_line self.old.rest.now }
-        ensures number { self.new.number ≡ (if is_some result then next_number self.old.number else self.old.number) }
-    {
-        if self.rest.is_empty() {
-            return None;
-        }
-        let rest = self.rest;
-        let end = line_length(rest);
-        let line = Line {
-            number: self.number,
-            bytes: &rest[0..end],
-            ended: end < rest.len(),
-        };
-        self.rest = if line.ended {
-            &rest[end + 1..]
-        } else {
-            &rest[end..]
-        };
-        self.number = self.number.saturating_add(1);
-        Some(line)
-    }
-
     // The next line, where the text may not end before it.
     pub fn due(&mut self) -> Result<Line<'a>, TextFault>
         ensures line { each_mapped line_text (λ e. e) result ≡ due_line self.old.number self.old.rest.now }
@@ -110,14 +87,38 @@ impl<'a> Lines<'a> {
     }
 }
 
+impl<'a> Iterator for Lines<'a> {
+    type Item = Line<'a>;
+
+    ghost next_gives = { λ before line after. (option_map line_text line ≡ first_line before.number before.rest.now)
+        × (after.rest.now ≡ after_line before.rest.now)
+        × (after.number ≡ (if is_some line then next_number before.number else before.number)) };
+
+    ghost remaining = { λ lines. at_most (length lines.rest.now) };
+
+    // The next line, or `None` if no byte is left.
+    #[tactic(auto, using(crate::proofs::Cuts::line_within))]
+    fn next(&mut self) -> Option<Line<'a>> {
+        if self.rest.is_empty() {
+            return None;
+        }
+        let (bytes, behind) = self.rest.split_at(line_length(self.rest));
+        let line = Line {
+            number: self.number,
+            bytes,
+            ended: !behind.is_empty(),
+        };
+        self.rest = behind.get(1..).unwrap_or(behind);
+        self.number = self.number.saturating_add(1);
+        Some(line)
+    }
+}
+
 // How many bytes the first line has.
 fn line_length(text: &[u8]) -> usize
     ensures { result ≡ length (line_of text.now) }
 {
-    for (i, byte) in text.iter().enumerate() {
-        if *byte == END_OF_LINE {
-            return i;
-        }
-    }
-    text.len()
+    text.iter()
+        .position(|byte| *byte == END_OF_LINE)
+        .unwrap_or(text.len())
 }

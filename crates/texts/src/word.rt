@@ -8,6 +8,7 @@ use crate::field::COLUMNS;
 use crate::lines::Line;
 
 // The bytes of a word; a text that is no word has none.
+// Words are text literals and no enum, so that a call shows what the line begins with.
 pub fn bytes_of(word: &str) -> &'static [u8]
     ensures bytes { result.now ≡ word_bytes word.now }
     ensures short { length result.now ≤ 4 }
@@ -37,6 +38,7 @@ impl Line<'_> {
 
     // Refuses a line with fewer characters than the word, then another word, then a length that is not
     // that of the word and its fields.
+    #[tactic(auto, unfolding(crate::specs::Words::word_check))]
     pub fn check_word(&self, word: &str, fields: u8) -> Result<(), TextFault>
         ensures { result ≡ word_check (line_text self.now) (word_bytes word.now) fields }
     {

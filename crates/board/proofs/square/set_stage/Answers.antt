@@ -1,10 +1,7 @@
-use Rattle.std.proofs.Common.{set, sym, ap, ◌∙◌}
+use Rattle.std.proofs.Common.{rules}
 use Rattle.board.specs.Board.{with_stage}
-use Rattle.board.proofs.Boards.{changed_some, changed_none}
+use Rattle.board.proofs.Boards.{changed_by}
 use Rattle.board.proofs.square.set_stage.Goals as goal
 
-pub returns-in-Some : goal.returns-in-Some
-returns-in-Some g c = c.put.ensures ∙ ap (set c.args.board.now c.args.cell) c.staged.ensures ∙ changed_some (with_stage c.args.search c.args.stage) c.args.board.now c.args.cell c.in-Some.square (sym c.in-Some.ensures)
-
-pub returns-in_default : goal.returns-in_default
-returns-in_default g c = changed_none (with_stage c.args.search c.args.stage) c.args.board.now c.args.cell (sym c.in_default.ensures)
+pub returns : goal.returns
+returns g c = changed_by (with_stage c.args.search c.args.stage) _ _ _ _ c.change.ensures (λ x y made. search rules)

@@ -1,14 +1,13 @@
-use Rattle.std.proofs.Common.{true, false, sym, ◌∙◌, arith}
-use Rattle.carrier.specs.SheetsLemmas.{foreign_from, foreign_end}
+use Rattle.std.proofs.Common.{◌≡◌, ◌∙◌, rules, tests}
+use Rattle.std.specs.List.{position}
+use Rattle.std.proofs.lemmas.Iterator.{YieldsList-from_slice}
+use Rattle.std.proofs.lemmas.Iterator.Search.{position_from_yields_List}
+use Rattle.carrier.specs.Sheets.{foreign}
+use Rattle.carrier.specs.SheetsLemmas.{foreign_position}
 use Rattle.carrier.proofs.sheet.foreign_cell.Goals as goal
 
-pub returns-then-is_foreign : goal.returns-then-is_foreign
-returns-then-is_foreign c =
-    sym (c.loop-cell.invariant ∙ foreign_from c.args.sheet.now c.loop-cell.cell true (omega arith) (sym c.if-is_foreign.ensures))
-
-pub loop-cell-preserved : goal.loop-cell-preserved
-loop-cell-preserved c =
-    c.loop-cell.invariant ∙ foreign_from c.args.sheet.now c.loop-cell.cell false (omega arith) (sym c.if-is_foreign.ensures)
-
 pub returns : goal.returns
-returns c = sym (c.loop-cell.invariant ∙ foreign_end c.args.sheet.now c.loop-cell.cell (omega arith))
+returns c =
+    let found : c.position.result ≡ position foreign c.args.sheet.now = position_from_yields_List _ _ _ _ c.position.ensures.ran (YieldsList-from_slice c.args.sheet.now cc) (λ x b q k. search (rules, tests)) in
+    let same : c.map.result ≡ c.position.result = search rules in
+    same ∙ found ∙ foreign_position c.args.sheet.now

@@ -1,4 +1,5 @@
-use Rattle.std.proofs.Common.{◌≡◌, ◌+◌, ◌*◌, List, [], length, get_or, take, sym, ap, ◌∙◌, arith}
+use Rattle.std.proofs.Common.{◌≡◌, ◌+◌, ◌*◌, true, List, [], length, get_or, take, Ok, Err, sym, ap, ◌∙◌, arith}
+use Rattle.std.proofs.lemmas.Bool.{le-leb, cond-true}
 use Rattle.std.proofs.lemmas.List.{take_more, take_all}
 use Rattle.filing.specs.declared.fault.PenFault.TheVariants.{Full}
 use Rattle.filing.specs.declared.pen.Pen.{Pen}
@@ -6,7 +7,7 @@ use Rattle.filing.specs.declared.pen.Row.{Row}
 use Rattle.texts.specs.Headings.{heading_check}
 use Rattle.filing.specs.Pen.{pen_behind, rows_fit, record_text}
 use Rattle.filing.specs.Written.{fits, overwritten}
-use Rattle.filing.proofs.Filed.{room_for_rows, accepted, begun_pen, closed_bytes, penned_none, penned_more, penned_closed}
+use Rattle.filing.proofs.Filed.{room_for_rows, accepted, begun_pen, penned_none, penned_more, penned_closed}
 use Rattle.filing.proofs.pen.file.Goals as goal
 
 abbrev none : Row
@@ -25,21 +26,28 @@ loop-row-preserved c =
     penned_more (take i rows) c.begin.new.buffer c.loop-row.pen c.loop-row.buffer (get_or rows i none) (take (i + 1) rows) c.row.new.self c.row.new.buffer
     c.loop-row.invariant (omega arith) (take_more rows i none (omega arith)) c.in_default.ensures.pen c.in_default.ensures.bytes
 
-pub returns-in-Ok : goal.returns-in-Ok
-returns-in-Ok c =
+pub returns : goal.returns
+returns c =
     let h = c.args.heading.now in
     let rows = c.args.rows.now in
     let old = c.args.buffer.now in
     let i = c.loop-row.row-index in
+    let pen = c.loop-row.pen in
     let all : take i rows ≡ rows = take_all i rows (omega arith) in
     let count = ap length all in
-    let stands : c.loop-row.pen.at ≡ 96 + 31 * length (take i rows) = ap (λ (q : Pen). q.at) c.loop-row.invariant.stands in
-    let bytes : c.in-Ok.bytes ≡ c.loop-row.pen.at + 35 = closed_bytes (fits c.loop-row.buffer c.loop-row.pen.at 35) c.in-Ok.bytes (c.loop-row.pen.at + 35) (record { pen = c.loop-row.pen; fault = Full }) c.in-Ok.ensures.answer in
+    let stands : pen.at ≡ 96 + 31 * length (take i rows) = ap (λ (q : Pen). q.at) c.loop-row.invariant.stands in
+    let room = room_for_rows (length rows) (length old) c.if-not-rows_fit.ensures in
+    let fit : fits c.loop-row.buffer pen.at 35 ≡ true = le-leb (pen.at + 35) (length c.loop-row.buffer) (omega arith) in
+    let closed : c.close.result ≡ Ok (pen.at + 35) = c.close.ensures.answer ∙ cond-true (fits c.loop-row.buffer pen.at 35) (Ok (pen.at + 35)) (Err (record { pen = pen; fault = Full })) fit in
+    let given : c.map_err.result ≡ Ok (pen.at + 35) = rw closed at c.map_err.ensures.cases in
     record {
       answer =
-          accepted (heading_check h) (rows_fit (length rows) (length old)) c.in-Ok.bytes (131 + 31 * length rows)
+          given
+          ∙ accepted (heading_check h) (rows_fit (length rows) (length old)) (pen.at + 35) (131 + 31 * length rows)
           (sym c.check.ensures ∙ c.in_ok-check.was) (sym c.if-not-rows_fit.ensures) (omega arith);
       bytes =
-          penned_closed (take i rows) c.begin.new.buffer c.loop-row.pen c.loop-row.buffer h old c.args.ending c.args.rock c.close.new.buffer c.loop-row.invariant c.in_ok-pen.ensures.bytes c.in-Ok.ensures.bytes
-          ∙ ap (λ (rs : List Row). overwritten old 0 (record_text h rs c.args.ending c.args.rock)) all;
+          rw given (
+          penned_closed (take i rows) c.begin.new.buffer pen c.loop-row.buffer h old c.args.ending c.args.rock c.close.new.buffer c.loop-row.invariant c.in_ok-pen.ensures.bytes (rw closed at c.close.ensures.bytes)
+          ∙ ap (λ (rs : List Row). overwritten old 0 (record_text h rs c.args.ending c.args.rock)) all
+          );
     }

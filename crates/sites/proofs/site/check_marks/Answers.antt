@@ -1,38 +1,24 @@
-use Rattle.std.proofs.Common.{◌≡◌, ℕ, ◌+◌, ◌<◌, true, false, List, length, get_or, drop, Err, sym, refl, ap, ◌∙◌, arith}
-use Rattle.std.proofs.lemmas.List.{at_drop_more, at_drop_all}
-use Rattle.std.proofs.lemmas.Bool.Decides.{nat_tests}
+use Rattle.std.proofs.Common.{◌≡◌, ◌+◌, true, false, Err, sym, ap, ◌∙◌, arith, rules, tests}
+use Rattle.std.proofs.lemmas.Iterator.{YieldsList-from_slice, IsFirst-from_position}
+use Rattle.std.proofs.lemmas.Option.{MatchOption-at_some, MatchOption-at_none}
+use Rattle.texts.specs.Lines.{line_text, in_line}
 use Rattle.sites.specs.declared.fault.SiteFault.TheVariants.{Foreign}
-use Rattle.texts.specs.Lines.{TextLine, line_text, in_line}
-use Rattle.sites.specs.Site.{is_mark, marks_check}
-use Rattle.texts.proofs.Words.{at_column}
+use Rattle.sites.specs.Site.{is_mark}
+use Rattle.sites.proofs.Marks.{marks_pass, marks_stop}
 use Rattle.sites.proofs.site.check_marks.Goals as goal
 
--- the check from byte i on, if that byte is a mark, and if not
-marked : (l : TextLine) (c : ℕ) (t : List ℕ) (i : ℕ) → i < length t → is_mark (get_or t i 0) ≡ true → marks_check l c (drop i t) ≡ marks_check l (c + 1) (drop (i + 1) t)
-marked l c t i h e = at_drop_more (marks_check l c) t i 0 h ∙ rw e refl
-
-foreign : (l : TextLine) (c : ℕ) (t : List ℕ) (i : ℕ) → i < length t → is_mark (get_or t i 0) ≡ false → marks_check l c (drop i t) ≡ Err (Foreign (in_line l c))
-foreign l c t i h e = at_drop_more (marks_check l c) t i 0 h ∙ rw e refl
-
-pub returns-in_default : goal.returns-in_default
-returns-in_default c =
+pub returns-in-Some : goal.returns-in-Some
+returns-in-Some c =
     let l = line_text c.args.line.now in
-    let t = c.args.line.now.bytes.now in
-    let i = c.loop-i.i in
-    let e : is_mark (get_or t i 0) ≡ false = grind (arith, nat_tests) in
-    ap (λ p. Err (Foreign p)) (at_column l _ (i + 1) c.place.ensures (omega arith)) ∙ sym (foreign l (i + 1) t i (omega arith) e) ∙ c.loop-i.invariant
+    let i = c.in-Some.i in
+    let found = IsFirst-from_position _ _ _ (λ b. is_mark b ≡ false) (λ b. is_mark b ≡ true) c.position-foreign.ensures.ran (YieldsList-from_slice l.bytes cc) (λ b q k. search (rules, tests)) (λ b q k. search (rules, tests)) in
+    let first = MatchOption-at_some _ _ _ c.in-Some.is found in
+    let column : c.place.result ≡ in_line l (1 + i) = c.place.ensures ∙ ap (λ k. in_line l k) (omega arith) in
+    ap (λ p. Err (Foreign p)) column ∙ sym (marks_stop l 1 l.bytes i first.0 (first.1 0) (λ k h. first.2 k 0 (omega arith) h))
 
-pub loop-i-preserved : goal.loop-i-preserved
-loop-i-preserved c =
+pub returns-in-None : goal.returns-in-None
+returns-in-None c =
     let l = line_text c.args.line.now in
-    let t = c.args.line.now.bytes.now in
-    let i = c.loop-i.i in
-    let e : is_mark (get_or t i 0) ≡ true = grind (arith, nat_tests) in
-    sym (marked l (i + 1) t i (omega arith) e) ∙ c.loop-i.invariant
-
-pub returns : goal.returns
-returns c =
-    let l = line_text c.args.line.now in
-    let t = c.args.line.now.bytes.now in
-    let i = c.loop-i.i in
-    sym (at_drop_all (marks_check l (i + 1)) t i (omega arith)) ∙ c.loop-i.invariant
+    let found = IsFirst-from_position _ _ _ (λ b. is_mark b ≡ false) (λ b. is_mark b ≡ true) c.position-foreign.ensures.ran (YieldsList-from_slice l.bytes cc) (λ b q k. search (rules, tests)) (λ b q k. search (rules, tests)) in
+    let all = MatchOption-at_none _ _ c.in-None.is found in
+    sym (marks_pass l 1 l.bytes (λ k h. all k 0 (omega arith) h))

@@ -1,5 +1,4 @@
 use Rattle.std.proofs.Common.{◌+◌, length, arith, leb-true}
-use Rattle.std.proofs.lemmas.Result.{IfOk-from_err}
 use Rattle.filing.specs.declared.pen.Pen.{Pen}
 use Rattle.texts.specs.Headings.{heading_check}
 use Rattle.filing.specs.Written.{fits}
@@ -15,10 +14,7 @@ follow-requires g c =
     let room = (begun_checks (heading_check h) (fits buffer 0 131) c.in_ok-pen.pen first c.in_ok-pen.ensures.answer).1 in
     (begun_pen (heading_check h) (fits buffer 0 131) c.in_ok-pen.pen first c.in_ok-pen.ensures.answer, omega (arith, leb-true (0 + 131) (length buffer) room))
 
-pub returns-in-Ok-follow : goal.returns-in-Ok-follow
-returns-in-Ok-follow g c =
-    closed_course c.args.site.now.heading c.args.buffer.now c.begin.new.buffer c.follow.new.buffer c.close.new.buffer c.follow.new.pen c.tell.result.found c.close.result
-    c.in_ok-pen.ensures.bytes (omega arith) c.in-Ok-follow.ensures c.close.ensures
-
-pub returns-in_err-pen : goal.returns-in_err-pen
-returns-in_err-pen g c = IfOk-from_err c.from_residual-in_err-pen.result _ c.from_residual-in_err-pen.ensures.0
+pub returns-in-Ok : goal.returns-in-Ok
+returns-in-Ok g c =
+    closed_course c.args.site.now.heading c.args.buffer.now c.begin.new.buffer c.follow.new.buffer c.close.new.buffer c.follow.new.pen c.rock_found.result c.close.result
+    c.in_ok-pen.ensures.bytes (omega arith) c.in-Ok.ensures c.close.ensures

@@ -1,26 +1,14 @@
-use Rattle.std.proofs.Common.{◌≡◌, ℕ, ◌+◌, ◌<◌, List, length, get_or, drop, sym, refl, ◌∙◌, arith}
-use Rattle.std.proofs.lemmas.List.{at_drop_more, at_drop_all, drop_more, drop_all}
+use Rattle.std.proofs.Common.{◌≡◌, eqb, drop, sym, refl, ap, ◌∙◌, arith, rules}
+use borrow.Author.Tests.{tests}
+use Rattle.std.specs.List.{prefix_len}
 use Rattle.std.proofs.lemmas.Bool.{eq-eqb, ne_eqb}
-use Rattle.texts.specs.Numerals.{behind_blanks}
+use Rattle.std.proofs.lemmas.Iterator.{YieldsList-from_slice, IsFirst-from_position, index_from_first}
+use Rattle.texts.proofs.Numerals.{blanks_stop}
 use Rattle.texts.proofs.field.blanks.Goals as goal
 
-pub returns-then-byte-ne-BLANK : goal.returns-then-byte-ne-BLANK
-returns-then-byte-ne-BLANK c =
-    let t = c.args.columns.now in
-    let i = c.loop-i.i in
-    record { within = omega arith; behind = behind t i (omega arith) (λ e. omega arith) ∙ c.loop-i.invariant }
-  where
-    behind : (t : List ℕ) (i : ℕ) → i < length t → (get_or t i 0 ≡ 32 → ⊥) → drop i t ≡ behind_blanks (drop i t)
-    behind t i l e = drop_more t i 0 l ∙ sym (at_drop_more behind_blanks t i 0 l ∙ rw (ne_eqb (get_or t i 0) 32 e) refl)
-
-pub loop-i-preserved : goal.loop-i-preserved
-loop-i-preserved c = sym (past c.args.columns.now c.loop-i.i (omega arith) (omega arith)) ∙ c.loop-i.invariant
-  where
-    past : (t : List ℕ) (i : ℕ) → i < length t → get_or t i 0 ≡ 32 → behind_blanks (drop i t) ≡ behind_blanks (drop (i + 1) t)
-    past t i l e = at_drop_more behind_blanks t i 0 l ∙ rw (eq-eqb (get_or t i 0) 32 e) refl
-
-pub returns : goal.returns
-returns c =
-    let t = c.args.columns.now in
-    let i = c.loop-i.i in
-    record { within = omega arith; behind = drop_all (length t) t (omega arith) ∙ sym (at_drop_all behind_blanks t i (omega arith)) ∙ c.loop-i.invariant }
+pub returns-clause-behind : goal.returns-clause-behind
+returns-clause-behind c =
+    let columns = c.args.columns.now in
+    let first = IsFirst-from_position _ _ _ (λ b. b ≡ 32 → ⊥) (λ b. b ≡ 32) c.position.ensures.ran (YieldsList-from_slice columns cc) (λ b q k. search (rules, tests)) (λ b q k. search (rules, tests)) in
+    let count = index_from_first (prefix_len (λ b. eqb b 32)) (λ b. b ≡ 32 → ⊥) (λ b. b ≡ 32) refl (λ b bs n. rw (ne_eqb b 32 n) refl) (λ b bs e. rw (eq-eqb b 32 e) (omega arith)) columns c.position.result first in
+    ap (λ k. drop k columns) (c.unwrap_or.ensures ∙ sym count) ∙ blanks_stop columns

@@ -11,41 +11,25 @@ loop-entry-preserved g c =
     let old = c.loop-entry.queue in
     let e = c.in-Some.entry in
     let left = c.in-Some.left in
-    let number = ap (λ x. x.number) inv.0 in
     let out = c.in-Some.ensures in (
       ap (λ x. with_entries x left) inv.0,
       omega (arith, inv.1, out.counted),
       λ size stages same q.
           passed m.scale g.met.M.Measure.ordered m.value size stages old c.loop-entry.self.waiting c.pop.new.queue e left out (inv.2 size stages same q)
           c.args.self.now.number c.args.board.now same c.stage_in.result
-          (c.stage_in.ensures ∙ ap (λ n. stage_at n c.args.board.now e.cell) number) c.in_default-stage_in.not-Waiting,
+          (c.stage_in.ensures ∙ ap (λ x. stage_at x.number c.args.board.now e.cell) inv.0) c.in_default-stage_in.not-Waiting,
     )
 
-pub returns-in-Waiting : goal.returns-in-Waiting
-returns-in-Waiting g c =
+pub returns-in-Waiting-clause-choice : goal.returns-in-Waiting-clause-choice
+returns-in-Waiting-clause-choice g c size stages same q =
     let m = g.M.Measure in
     let inv = c.loop-entry.invariant in
-    let old = c.loop-entry.queue in
     let e = c.in-Some.entry in
-    let left = c.in-Some.left in
-    let number = ap (λ x. x.number) inv.0 in
-    let out = c.in-Some.ensures in
-    record {
-      rest = ap (λ x. with_entries x left) inv.0;
-      fewer = omega (arith, inv.1, out.counted);
-      choice = λ size stages same q.
-          chooses m.scale g.met.M.Measure.ordered m.value size stages old c.loop-entry.self.waiting c.pop.new.queue e left out (inv.2 size stages same q)
-          c.args.self.now.number c.args.board.now same c.in-Waiting.measure c.in-Waiting.back
-          (sym (c.in-Waiting.ensures ∙ ap (λ n. stage_at n c.args.board.now e.cell) number));
-    }
+    chooses m.scale g.met.M.Measure.ordered m.value size stages c.loop-entry.queue c.loop-entry.self.waiting c.pop.new.queue e c.in-Some.left c.in-Some.ensures (inv.2 size stages same q)
+    c.args.self.now.number c.args.board.now same c.in-Waiting.measure c.in-Waiting.back
+    (sym (c.in-Waiting.ensures ∙ ap (λ x. stage_at x.number c.args.board.now e.cell) inv.0))
 
-pub returns : goal.returns
-returns g c =
+pub returns-clause-choice : goal.returns-clause-choice
+returns-clause-choice g c size stages same q =
     let m = g.M.Measure in
-    let inv = c.loop-entry.invariant in
-    let none = c.in_default.ensures in
-    record {
-      rest = inv.0;
-      fewer = inv.1;
-      choice = λ size stages same q. none_waits m.scale g.met.M.Measure.ordered m.value size stages c.loop-entry.queue c.loop-entry.self.waiting none.0 (inv.2 size stages same q);
-    }
+    none_waits m.scale g.met.M.Measure.ordered m.value size stages c.loop-entry.queue c.loop-entry.self.waiting c.in_default.ensures.0 (c.loop-entry.invariant.2 size stages same q)

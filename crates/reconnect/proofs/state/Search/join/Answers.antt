@@ -1,5 +1,4 @@
-use Rattle.std.proofs.Common.{◌≡◌, ℕ, refl, ap, ◌∙◌, subst, arith}
-use Rattle.model.specs.declared.Phase.TheVariants as phase
+use Rattle.std.proofs.Common.{refl, ap, ◌∙◌, subst, arith}
 use Rattle.model.specs.Plain as plain
 use Rattle.model.specs.Plain.{World, is_taken}
 use Rattle.model.specs.Worlds.{over}
@@ -7,9 +6,6 @@ use Rattle.model.proofs.Basics.Counting.{count_at_most}
 use Rattle.reconnect.specs.Reaching.{IsMeasure}
 use Rattle.reconnect.proofs.Spreading.{taken_measured}
 use Rattle.reconnect.proofs.state.Search.join.Goals as goal
-
-not_searching : phase.Ready ≡ phase.Searching → ⊥
-not_searching e = let z : ◌≡◌ {A = ℕ} 0 1 = cc in omega arith
 
 pub returns : goal.returns
 returns g c queue terrain aim s searching homewards taken r =
@@ -31,7 +27,7 @@ returns g c queue terrain aim s searching homewards taken r =
         shown = c.retrace.ensures.retraces terrain aim s.squares homewards taken r.shown;
         numbered = c.retrace.ensures.numbered l.size r.numbered;
         room = r.room;
-        frontier = λ e. absurd (not_searching e);
-        few = λ e. absurd (not_searching e);
+        frontier = λ e. cc;
+        few = λ e. cc;
       },
     )

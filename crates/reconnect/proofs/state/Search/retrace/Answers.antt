@@ -45,30 +45,22 @@ loop-step-preserved g c =
           c.towards.ensures),
     )
 
-pub returns-then-cell-home : goal.returns-then-cell-home
-returns-then-cell-home g c =
+pub returns-then-cell-home-clause-retraces : goal.returns-then-cell-home-clause-retraces
+returns-then-cell-home-clause-retraces g c terrain aim q homewards taken shown =
     let l = g.L.Lattice.grid c.args.lattice.now in
+    let w : World = over l terrain aim g.M.Measure.scale in
     let number = c.args.self.now.number in
     let left = l.size - (c.loop-step._step + 1) in
-    record {
-      numbered = c.loop-step.invariant.0;
-      retraces = λ terrain aim q homewards taken shown.
-          let w : World = over l terrain aim g.M.Measure.scale in
-          let one : l.size - c.loop-step._step ≡ suc left = omega (arith, c.size-step-end.ensures) in
-          tracing_home w g.M.Measure.value number c.args.home q c.args.taken c.loop-step.board left c.loop-step.cell
-          (subst (λ n. Tracing w g.M.Measure.value number c.args.home q c.args.taken c.loop-step.board n c.loop-step.cell) one (c.loop-step.invariant.1 terrain aim q homewards taken shown))
-          c.if-cell-home.true;
-    }
+    let one : l.size - c.loop-step._step ≡ suc left = omega (arith, c.size-step-end.ensures) in
+    tracing_home w g.M.Measure.value number c.args.home q c.args.taken c.loop-step.board left c.loop-step.cell
+    (subst (λ n. Tracing w g.M.Measure.value number c.args.home q c.args.taken c.loop-step.board n c.loop-step.cell) one (c.loop-step.invariant.1 terrain aim q homewards taken shown))
+    c.if-cell-home.true
 
-pub returns : goal.returns
-returns g c =
+pub returns-clause-retraces : goal.returns-clause-retraces
+returns-clause-retraces g c terrain aim q homewards taken shown =
     let l = g.L.Lattice.grid c.args.lattice.now in
+    let w : World = over l terrain aim g.M.Measure.scale in
     let number = c.args.self.now.number in
-    record {
-      numbered = c.loop-step.invariant.0;
-      retraces = λ terrain aim q homewards taken shown.
-          let w : World = over l terrain aim g.M.Measure.scale in
-          let none : l.size - c.loop-step._step ≡ 0 = omega (arith, c.size-step-end.ensures) in
-          tracing_end w g.M.Measure.value number c.args.home q c.args.taken c.loop-step.board c.loop-step.cell
-          (subst (λ n. Tracing w g.M.Measure.value number c.args.home q c.args.taken c.loop-step.board n c.loop-step.cell) none (c.loop-step.invariant.1 terrain aim q homewards taken shown));
-    }
+    let none : l.size - c.loop-step._step ≡ 0 = omega (arith, c.size-step-end.ensures) in
+    tracing_end w g.M.Measure.value number c.args.home q c.args.taken c.loop-step.board c.loop-step.cell
+    (subst (λ n. Tracing w g.M.Measure.value number c.args.home q c.args.taken c.loop-step.board n c.loop-step.cell) none (c.loop-step.invariant.1 terrain aim q homewards taken shown))

@@ -1,0 +1,2 @@
+-- What `find` answers, for the proof of `Guide::lead`.
+pub mod Finding

@@ -1,9 +1,0 @@
-use Rattle.std.proofs.Common.{◌≡◌, ◌+◌, ◌-◌}
-use Rattle.sites.specs.Site.{rows_check, after_lines}
-use Rattle.sites.proofs.site.check_rows.Given as goal
-
-abbrev pub invariant-loop-row : goal.invariant-loop-row
-invariant-loop-row l =
-    (l.lines.number ≡ l._row + 3)
-    × (rows_check (l.heading.height - l._row) l.heading.width l.lines.number l.lines.rest.now ≡ rows_check l.heading.height l.heading.width 3 l.initial.lines.rest.now)
-    × (after_lines (l.heading.height - l._row) l.lines.rest.now ≡ after_lines l.heading.height l.initial.lines.rest.now)
