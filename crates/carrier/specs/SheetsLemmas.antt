@@ -16,9 +16,9 @@ pub rock_within : (bytes : List ℕ) (a : ℕ) → sheet_rock bytes a ≡ true �
 rock_within bytes a e = grind (arith, nat_tests, past_open)
 
 -- the first foreign byte is the first that passes a test
-foreign_from : (k : ℕ) (bytes : List ℕ) → position_from foreign k bytes ≡ first_foreign bytes k
-foreign_from k [] = refl
-foreign_from k (b ∷ bs) = ap (λ o. cond (foreign b) (Some k) o) (foreign_from (k + 1) bs)
+foreign_counted : (k : ℕ) (bytes : List ℕ) → position_from foreign k bytes ≡ first_foreign bytes k
+foreign_counted k [] = refl
+foreign_counted k (b ∷ bs) = ap (λ o. cond (foreign b) (Some k) o) (foreign_counted (k + 1) bs)
 
 pub foreign_position : (bytes : List ℕ) → position foreign bytes ≡ first_foreign bytes 0
-foreign_position bytes = position_from-zero foreign bytes ∙ foreign_from 0 bytes
+foreign_position bytes = position_from-zero foreign bytes ∙ foreign_counted 0 bytes

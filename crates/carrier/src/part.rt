@@ -50,10 +50,9 @@ impl<L: Lattice> Lattice for Part<L> {
         if cell >= self.size {
             return None;
         }
-        match self.lattice.beside(cell, direction) {
-            Some(next) if next < self.size => Some(next),
-            _ => None,
-        }
+        self.lattice
+            .beside(cell, direction)
+            .filter(|next| *next < self.size)
     }
 
     fn cost(&self, direction: u8) -> u8 {

@@ -1,15 +1,15 @@
 // The pillar carrier: its rock is given by a list of pillars.
-ghost use Rattle.std.specs.Prelude.{◌≡◌, ◌≤◌, length, IfOk, IfErr, None, vec_len};
+ghost use Rattle.std.specs.Prelude.{◌≡◌, ◌≤◌, IfOk, IfErr, None, vec_len};
 ghost use Rattle.carrier.specs.Pillars.{any_pillar_covers, pillar_rock, pillars_refusal};
 ghost use Rattle.carrier.specs.Unfits.{Refuses};
 ghost use Rattle.carrier.specs.Covering.{rock_within};
 
 use crate::pillar::Pillar;
 use crate::rocks::{Map, Rocks};
-use crate::rover::Rover;
+use crate::rover::{Rover, check_start};
 use crate::unfit::Unfit;
 use floor::Lattice;
-use std::alloc::{AllocError, Global};
+use std::alloc::Global;
 
 const MOST: usize = 64;
 
@@ -77,17 +77,16 @@ impl<L: Lattice + Drop> Pillars<L> {
             return Err(Unfit::TooManyPillars);
         }
         let size = lattice.size();
-        let copy = || -> Result<Plan, AllocError>
-            requires { length pillars.now ≤ 64 }
-        {
-            let pillars = Vec::from_slice(heap, pillars)?;
-            Ok(Plan {
+        check_start(size, start, is_covered(pillars, width, size, start))?;
+        let pillars = Vec::from_slice(heap, pillars)?;
+        Ok(Rover {
+            floor: lattice,
+            rocks: Plan {
                 pillars,
                 width,
                 size,
-            })
-        };
-        let on_rock = is_covered(pillars, width, size, start);
-        Rover::on_start(lattice, start, on_rock, copy)
+            },
+            at: start,
+        })
     }
 }

@@ -21,6 +21,7 @@ pub trait Map: Rocks {
 }
 
 // The byte of the rock beside a cell: bit d - 1 is set for a rock neighbour in direction d.
+// It goes over bits and not over directions, since bits are what it builds.
 pub fn felt_at<L: Lattice, R: Rocks>(lattice: &L, rocks: &R, cell: u32) -> u8
     ensures { result ≡ rock_bits (L.Lattice.grid lattice.now) (R.Rocks.rock rocks.now) cell }
 {

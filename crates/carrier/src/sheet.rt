@@ -1,12 +1,13 @@
 // The sheet carrier: its rock is given by a sheet, one byte for each cell.
-ghost use Rattle.std.specs.Prelude.{◌≡◌, ℕ, ◌≤◌, length, IfOk, IfErr, MatchResult, None, Some, vec_len, ◌==◌};
+ghost use Rattle.std.specs.Prelude.{◌≡◌, ◌≤◌, length, IfOk, IfErr, None, vec_len, ◌==◌};
+ghost use Rattle.std.specs.Result.{result_err};
 ghost use Rattle.carrier.specs.Sheets.{sheet_rock, foreign, first_foreign, sheet_refusal};
-ghost use Rattle.carrier.specs.Unfits.{Refuses, start_refusal};
+ghost use Rattle.carrier.specs.Unfits.{Refuses};
 ghost use Rattle.std.proofs.Common.{arith};
 ghost use Rattle.carrier.specs.SheetsLemmas.{rock_within};
 
 use crate::rocks::{Map, Rocks};
-use crate::rover::Rover;
+use crate::rover::{Rover, check_start};
 use crate::unfit::Unfit;
 use floor::Lattice;
 use std::alloc::Global;
@@ -42,7 +43,7 @@ fn is_rock_at(sheet: &[u8], cell: u32) -> bool
         .is_some_and(|byte| is_rock_byte(*byte))
 }
 
-// Whether a sheet byte is rock.
+// Whether a sheet byte is rock. Here and below bytes are matched as letters, by a rule of the project.
 fn is_rock_byte(byte: u8) -> bool
     ensures { result ≡ (byte == 35) }
 {
@@ -62,26 +63,28 @@ impl<L: Lattice + Drop> Sheet<L> {
         ensures made { IfOk result (λ c. (sheet_refusal (L.Lattice.grid lattice).size sheet.now start ≡ None) × (c.floor ≡ lattice) × (c.rocks.bytes.items ≡ sheet.now) × (c.at ≡ start)) }
         ensures refused { IfErr result (λ e. Refuses (sheet_refusal (L.Lattice.grid lattice).size sheet.now start) e) }
     {
-        check(lattice.size(), sheet)?;
-        Rover::on_start(lattice, start, is_rock_at(sheet, start), || {
-            let bytes = Vec::from_slice(heap, sheet)?;
-            Ok(Bytes { bytes })
+        check(lattice.size(), sheet, start)?;
+        let bytes = Vec::from_slice(heap, sheet)?;
+        Ok(Rover {
+            floor: lattice,
+            rocks: Bytes { bytes },
+            at: start,
         })
     }
 }
 
-// A sheet has to have one byte for each cell of a floor of this size, each passable or rock.
-fn check(size: u32, sheet: &[u8]) -> Result<(), Unfit>
+// A sheet has to have one byte for each cell of a floor of this size, each passable or rock, and a start on the floor and off rock.
+fn check(size: u32, sheet: &[u8], start: u32) -> Result<(), Unfit>
     requires { size ≤ 4096 }
-    ensures { MatchResult result (λ _. (length sheet.now ≡ size) × ((start : ℕ) → sheet_refusal size sheet.now start ≡ start_refusal size (sheet_rock sheet.now) start)) (λ e. (start : ℕ) → sheet_refusal size sheet.now start ≡ Some e) }
+    ensures { result_err result ≡ sheet_refusal size sheet.now start }
 {
     if sheet.len() != size as usize {
         return Err(Unfit::SheetLength);
     }
-    match foreign_cell(sheet) {
-        Some(cell) => Err(Unfit::Foreign(cell)),
-        None => Ok(()),
+    if let Some(cell) = foreign_cell(sheet) {
+        return Err(Unfit::Foreign(cell));
     }
+    check_start(size, start, is_rock_at(sheet, start))
 }
 
 // The first cell whose byte is neither passable nor rock.

@@ -83,6 +83,7 @@ impl Unclosed {
     }
 }
 
+// Each call's clause `bytes` says which bytes are new; one definition for all would hide that.
 impl Pen {
     // Writes the first line and row 0, the start.
     pub fn begin(heading: &Heading, buffer: &mut [u8]) -> Result<Pen, PenFault>
@@ -211,6 +212,7 @@ pub fn file(
     }
     let mut pen = Pen::begin(heading, buffer)?;
     for row in rows {
+        // By hand, since `?` would let an open pen go.
         if let Err(fault) = pen.row(buffer, row.cell, row.length) {
             pen.abandon();
             return Err(fault);

@@ -1,20 +1,18 @@
-// Writing lines of words and fields into a buffer that the caller lends.
+// Writing lines of words and fields into a buffer that the caller lends, by a rule of the project; so buffer and place go along.
 ghost use Rattle.std.specs.Prelude.{◌≡◌, ◌+◌, ◌*◌, ◌≤◌, length, is_some, if◌then◌else◌, nat_le};
 ghost use Rattle.texts.specs.Fields.{field_text, written_line};
 ghost use Rattle.filing.specs.Written.{fits, overwritten, line_answer};
 
 use itoa::write_digits;
-
-// The columns of a field.
-const FIELD: usize = 10;
+use texts::field::COLUMNS;
 
 // A number as its ten columns: its digits behind blanks.
 #[tactic(auto, using(crate::proofs::Columns::digits_fit, crate::proofs::Columns::digits_as_field))]
 pub fn field(n: u32) -> [u8; 10]
     ensures { result ≡ field_text n }
 {
-    let mut columns = [b' '; FIELD];
-    write_digits(u64::from(n), &mut columns, FIELD);
+    let mut columns = [b' '; COLUMNS];
+    write_digits(u64::from(n), &mut columns, COLUMNS);
     columns
 }
 
@@ -35,7 +33,7 @@ fn line_fits(buffer: &[u8], at: usize, word: &[u8], fields: &[u32]) -> bool
     ensures { result ≡ nat_le (at + length word.now + 10 * length fields.now + 1) (length buffer.now) }
 {
     let room = buffer.len().saturating_sub(at).saturating_sub(word.len());
-    room > 0 && fields.len() <= (room - 1) / FIELD
+    room > 0 && fields.len() <= (room - 1) / COLUMNS
 }
 
 // Whether so many bytes fit the buffer from `at` on.

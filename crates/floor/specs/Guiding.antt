@@ -12,7 +12,8 @@ use Rattle.floor.specs.Leads.{none_passes, nearer, nearer_at}
 use Rattle.floor.specs.Cells.{column_below, row_below, cell_below, same_cell}
 use Rattle.floor.specs.Ways.{used_bounds, direction_of, its_column_way, its_row_way, Goes}
 use Rattle.floor.specs.Steps.{Stepped}
-use Rattle.floor.specs.Lawful.{on_floor, Sized, goes_there}
+use Rattle.floor.specs.Lawful.{goes_there}
+use Rattle.floor.specs.Squares.{on_floor, Sized}
 use Rattle.floor.specs.Nearing.{Left, Nearing, nearing, gap_none, gap_self}
 
 -- what a step costs

@@ -2,24 +2,12 @@
 use Rattle.std.specs.Prelude.{◌≡◌, ℕ, ◌*◌, ◌/◌, ◌%◌, ◌≤◌, Bool, true, false, cond, ◌&&◌, Some, None, refl}
 use Rattle.std.proofs.Common.{sym, ◌∙◌, ap, ap₂, subst, mul-le-mul, arith}
 use Rattle.std.proofs.lemmas.Bool.{and_parts}
-use Rattle.model.specs.Lattice.{Lattice, Lawful}
+use Rattle.model.specs.Lattice.{Lawful}
 use Rattle.model.specs.Floors.{same, column_way, row_way, floor_beside, used, odd, facing, streets, kings}
 use Rattle.model.proofs.Basics.Tests.{none_some}
 use Rattle.floor.specs.Ways.{used_bounds, direction_of, known_by_ways, facing_column, facing_row, facing_used, facing_straight, Goes, goes_back, goes_one_way}
+use Rattle.floor.specs.Squares.{on_floor, Sized}
 use Rattle.floor.specs.Steps.{Stepped, stepped, steps}
-
--- the lattice of the directions that pass a test
-abbrev pub on_floor : (ℕ → Bool) → ℕ → ℕ → Lattice
-on_floor uses w h = record {
-  size = w * h;
-  beside = λ a d. cond (uses d) (floor_beside w h a d) None;
-  cost = λ d. cond (used d && odd d) 5 7;
-  opposite = λ d. cond (uses d) (facing d) 0;
-}
-
--- a floor is 1 to 64 wide and high
-abbrev pub Sized : ℕ → ℕ → Type 0
-Sized w h = (1 ≤ w) × (w ≤ 64) × (1 ≤ h) × (h ≤ 64)
 
 module _ (uses : ℕ → Bool) (w h : ℕ) (sized : Sized w h) (in_use : (d : ℕ) → uses d ≡ true → used d ≡ true) where
   -- a step goes in a direction of the lattice

@@ -1,5 +1,5 @@
 -- The first direction that passes a test: where it is found, and what it says of the others that there is none.
-use Rattle.std.specs.Prelude.{◌≡◌, ℕ, zero, suc, ◌+◌, ◌-◌, ◌<◌, ◌≤◌, Bool, true, false, cond, Some, ◌==◌, ◌≢◌, refl}
+use Rattle.std.specs.Prelude.{◌≡◌, ℕ, zero, suc, ◌<◌, ◌≤◌, Bool, true, false, cond, Some, ◌==◌, ◌≢◌, refl}
 use Rattle.std.proofs.Common.{sym, ◌∙◌, ap, subst, arith}
 use Rattle.std.proofs.Math.Decide.{ℕ_discrete}
 use Rattle.std.proofs.Math.Dec.{eqb-suc-zero}
@@ -48,22 +48,6 @@ none_passes (suc n) p e d l h t = one (first_direction n p) refl (p (suc n)) ref
           | no off ↦ earlier z (omega arith)
         ]
     one (suc k) z b q f earlier = let g : suc k ≡ 0 = ap (λ x. cond x (cond b (suc n) 0) (suc k)) (sym (eqb-suc-zero k)) ∙ f in omega arith
-
--- the same for a direction d and those before it
-pub next_none : (d : ℕ) (p : ℕ → Bool) → 1 ≤ d → first_direction (d - 1) p ≡ 0 → p d ≡ false → first_direction (d + 1 - 1) p ≡ 0
-next_none d p l e f =
-    let up : suc (d - 1) ≡ d = omega arith in
-    let P : ℕ → Type 0 = λ n. first_direction n p ≡ 0 in
-    let same : suc (d - 1) ≡ d + 1 - 1 = omega arith in
-    subst P same (still_none (d - 1) p e (ap p up ∙ f))
-
-pub first_here : (d m : ℕ) (p : ℕ → Bool) → 1 ≤ d → d ≤ m → first_direction (d - 1) p ≡ 0 → p d ≡ true → d ≡ first_direction m p
-first_here d m p l h e t =
-    let up : suc (d - 1) ≡ d = omega arith in
-    sym (found_first (d - 1) m p e (ap p up ∙ t) (omega arith) ∙ up)
-
-pub none_of_all : (d n : ℕ) (p : ℕ → Bool) → d - 1 ≡ n → first_direction (d - 1) p ≡ 0 → 0 ≡ first_direction n p
-none_of_all d n p e z = let P : ℕ → Type 0 = λ k. 0 ≡ first_direction k p in subst P e (sym z)
 
 -- whether the neighbour in a direction is nearer by just the cost of the step
 abbrev pub nearer : Lattice → Guide → ℕ → ℕ → Bool

@@ -1,4 +1,5 @@
 pub mod Sizes
+pub mod Squares
 pub mod Between
 pub mod Lawful
 pub mod Ways

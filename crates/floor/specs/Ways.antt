@@ -6,14 +6,6 @@ use Rattle.std.proofs.lemmas.Bool.{and_parts}
 use borrow.Author.Tests.{ltb-true, leb-true, eqb-false, lt-ltb, ne_eqb, clash}
 use Rattle.model.specs.Floors.{Way, up, same, down, column_way, row_way, shifted, used, odd, facing}
 use Rattle.model.proofs.Basics.Tests.{same_some, none_some}
-use Rattle.floor.specs.declared.directions.Way.{Way as CodeWay}
-use Rattle.floor.specs.declared.directions.Way.TheVariants.{Up, Same, Down}
-
--- the way that a way of the code stands for
-abbrev pub meant : CodeWay → Way
-meant Up = up
-meant Same = same
-meant Down = down
 
 pub used_bounds : (d : ℕ) → used d ≡ true → (1 ≤ d) × (d ≤ 8)
 used_bounds d e = let t = and_parts (nat_le 1 d) (nat_le d 8) e in (leb-true 1 d t.0, leb-true d 8 t.1)

@@ -1,7 +1,7 @@
 // The eight directions, those of them that are used, and the ways they go.
 ghost use Rattle.std.specs.Prelude.{◌≡◌, ◌&&◌, ◌<◌};
 ghost use Rattle.model.specs.Floors.{used, odd, shifted, facing as opposite_of, column_way as between_columns, row_way as between_rows};
-ghost use Rattle.floor.specs.Ways.{meant};
+ghost use Rattle.floor.specs.Squares.{meant};
 
 pub(crate) fn is_direction(direction: u8) -> bool
     ensures { result ≡ used direction }

@@ -4,7 +4,7 @@
 // 3 to the next row, 5 and 7 lead back, and each even direction is the two beside it at once.
 ghost use Rattle.std.specs.Prelude.{◌≡◌, ◌*◌, ◌/◌, ◌%◌, ◌<◌, ◌≤◌};
 ghost use Rattle.std.specs.Option.{option_map};
-ghost use Rattle.model.specs.Floors.{floor_beside, gap};
+ghost use Rattle.model.specs.Floors.{floor_beside};
 ghost use Rattle.floor.specs.Sizes.{Made, fault_number};
 ghost use Rattle.floor.specs.Between.{differences as differences_of};
 

@@ -2,7 +2,7 @@
 ghost use Rattle.std.specs.Prelude.{◌≡◌, ℕ, Bool};
 ghost use Rattle.model.specs.Lattice.{Lawful, Guiding};
 ghost use Rattle.model.specs.Floors.{towards_goal};
-ghost use Rattle.floor.specs.Lawful.{on_floor, Sized};
+ghost use Rattle.floor.specs.Squares.{on_floor, Sized};
 ghost use Rattle.floor.specs.Sizes.{Made};
 ghost use Rattle.std.proofs.Common.{rules};
 

@@ -48,8 +48,7 @@ fn back_of<M: Copy>(stage: Stage<M>) -> u32
 fn towards<L: Lattice>(lattice: &L, from: u32, to: u32) -> u8
     ensures { result ≡ first_direction 8 (λ d. is ((L.Lattice.grid lattice.now).beside from d) to) }
 {
-    // Half open, as std's lemma on `find` has it.
-    (1..9u8)
+    (1..=8)
         .find(|direction| lattice.beside(from, *direction) == Some(to))
         .unwrap_or(0)
 }

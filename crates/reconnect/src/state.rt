@@ -8,6 +8,7 @@ pub struct Walk {
 }
 
 // How a search ends: joined with the two numbers of the way back's measure, or shut.
+// No `Option`, since `None` says of a step already that the search goes on.
 #[derive(Clone, Copy, PartialEq, Eq, Debug)]
 pub enum Outcome {
     Joined(u32, u32),

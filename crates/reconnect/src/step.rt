@@ -17,7 +17,9 @@ use measure::Measure;
 use measure::queue::Entry;
 
 impl Search {
-    // One step: a walk step if a walk is under way, else a take. Where it answers nothing the search goes on.
+    // One step: a walk step if a walk is under way, else a take; a match, as there are only these two. Where it answers
+    // nothing the search goes on.
+    // Board and queue are lent to each call, by a rule of the project.
     pub fn step<G: Guide, M: Measure>(
         &mut self,
         guide: &G,

@@ -24,7 +24,7 @@ pub fn survey(heap: Global, text: &[u8], buffer: &mut [u8]) -> Result<usize, Fau
 {
     let site = read_site(text)?;
     let (width, height) = (site.heading.width, site.heading.height);
-    // Each kind is a type of its own, to which the drive is compiled.
+    // Here and below each kind is a type of its own, to which the drive is compiled.
     match site.heading.lattice()? {
         LatticeKind::Streets => by_measure(heap, Streets::new(width, height)?, &site, buffer),
         LatticeKind::Kings => by_measure(heap, Kings::new(width, height)?, &site, buffer),
@@ -32,6 +32,7 @@ pub fn survey(heap: Global, text: &[u8], buffer: &mut [u8]) -> Result<usize, Fau
 }
 
 // Drives a site over a lattice, by the measure that its first line names, and files the course.
+// Heap, lattice and site go along, since the lattice's type is chosen on the way.
 fn by_measure<L: Metric + Copy>(
     heap: Global,
     lattice: L,
@@ -57,6 +58,7 @@ fn file<L: Metric + Copy, M: Measure + Clone>(
 {
     let mut trip = set_out::<L, M>(heap, lattice, site)?;
     let mut pen = Pen::begin(&site.heading, buffer)?;
+    // By hand, since `?` would let an open pen go.
     match trip.follow(&mut pen, buffer) {
         Ok(()) => close(pen, buffer, trip.rock_found()),
         Err(fault) => {

@@ -21,7 +21,7 @@ pub fn print(heap: Global, text: &[u8], buffer: &mut [u8]) -> Result<usize, Allo
     }
 }
 
-// Writes the line of a failure, if it fits, as lines of a record are written.
+// Writes the line of a failure, if it fits. No `Display`, since the buffer is lent, as a record's is.
 fn fail(buffer: &mut [u8], failure: &Failure) -> usize
     ensures failed { Failed failure.now buffer.old buffer.new result }
     ensures within { result ≤ length buffer.old }

@@ -1,15 +1,10 @@
 -- What is known of a check says what the checks from it on give.
-use Rattle.std.proofs.Common.{◌≡◌, ℕ, List, IsErrAnd, Ok, Err, Result, refl, ap, ◌∙◌}
+use Rattle.std.proofs.Common.{◌≡◌, ℕ, List, Ok, Err, Result, refl, ap, ◌∙◌}
 use Rattle.std.specs.Result.{result_map_both}
 use Rattle.texts.specs.Steps.{◌>>=◌}
 
 pub on : {A B E : Type 0} (f : A → Result B E) {r s : Result A E} → r ≡ s → (r >>= f) ≡ (s >>= f)
 on f e = ap (λ r. r >>= f) e
-
--- a fault that is handed on as it is
-pub handed_on : {A E : Type 0} (r : Result A E) (e : E) → IsErrAnd r (λ y. y ≡ e) → r ≡ Err e
-handed_on (Ok x) e h = absurd h
-handed_on (Err y) e h = ap Err h
 
 -- checks that all pass: the first gave a value with which the others pass
 pub passed : {A B E : Type 0} (r : Result A E) (f : A → Result B E) {y : B} → (r >>= f) ≡ Ok y → (x : A) × (r ≡ Ok x) × (f x ≡ Ok y)

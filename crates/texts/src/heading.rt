@@ -11,7 +11,7 @@ use crate::lines::Line;
 use floor::extent::{Extent, SizeFault};
 
 // The numbers as they stand on the line: neighbours is 4 or 8, and measure 1 or 2, in one that is accepted.
-// Plain numbers and no kinds, since a record with a number that names none has to be refused.
+// Plain numbers and no kinds, since the pen is handed them and has to refuse those that name none.
 #[derive(Clone, Copy, PartialEq, Eq, Debug)]
 pub struct Heading {
     pub width: u32,
@@ -97,7 +97,7 @@ impl From<SizeFault> for HeadingFault {
 }
 
 impl Heading {
-    // The lattice with so many neighbours.
+    // The lattice with so many neighbours, or the fault of their field.
     pub fn lattice(&self) -> Result<LatticeKind, HeadingFault>
         ensures { result ≡ ok_or (lattice_kind self.now.neighbours) (Unknown (heading_field 5)) }
     {
@@ -105,7 +105,7 @@ impl Heading {
         LatticeKind::try_from(self.neighbours).map_err(|_| unknown)
     }
 
-    // The measure of this number.
+    // The measure of this number, or the fault of its field. One function over both kinds would be longer.
     pub fn measured_by(&self) -> Result<MeasureKind, HeadingFault>
         ensures { result ≡ ok_or (measure_kind self.now.measure) (Unknown (heading_field 6)) }
     {

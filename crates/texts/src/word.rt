@@ -8,7 +8,7 @@ use crate::field::COLUMNS;
 use crate::lines::Line;
 
 // The bytes of a word; a text that is no word has none.
-// Words are text literals and no enum, so that a call shows what the line begins with.
+// Words are text literals and no enum, by a rule of the project.
 pub fn bytes_of(word: &str) -> &'static [u8]
     ensures bytes { result.now ≡ word_bytes word.now }
     ensures short { length result.now ≤ 4 }
