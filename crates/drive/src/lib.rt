@@ -8,4 +8,6 @@ pub mod go;
 pub mod look;
 pub mod refusal;
 pub mod tell;
+#[cfg(test)]
+mod tests;
 pub mod think;

@@ -1,7 +1,9 @@
-// Filed records: reading them line by line, and writing them again.
+// Filed records: reading them line by line.
 #![tactic(auto)]
 
 pub mod fault;
 pub mod line;
 pub mod reader;
+#[cfg(test)]
+mod tests;
 pub mod whole;
