@@ -63,6 +63,38 @@ DONE         1         5         0
         prints(&rt, text, record)
     }
 
+    // A zero byte, bytes above 127, a number past 32 bits, a floor without columns, a last line without its end, and a text too long.
+    #[test]
+    fn bad_input(rt: HostRuntime) -> Result<(), Fail> {
+        let bad: [(&[u8], &[u8]); 6] = [
+            (b"\0", b"FAIL         1        20         1         2\n"),
+            (
+                b"\xff\xfe\x80\x81",
+                b"FAIL         1        21         1         1\n",
+            ),
+            (
+                b"SITE4294967296         5         0         0         4         1\n",
+                b"FAIL         1        22         1         5\n",
+            ),
+            (
+                b"SITE         0         5         0         0         4         1\n",
+                b"FAIL         2         1         1         5\n",
+            ),
+            (
+                b"SITE         2         1         0         1         4         1\nPLAN\n..\nEND",
+                b"FAIL         1        20         4         4\n",
+            ),
+            (
+                &[b' '; 4097],
+                b"FAIL         2        26         0         0\n",
+            ),
+        ];
+        for (text, expected) in bad {
+            prints(&rt, text, expected)?;
+        }
+        Ok(())
+    }
+
     // No text, a foreign sheet byte, rock on the carrier's own pointer, and a course too long for the buffer.
     #[test]
     fn one_line_of_failure(rt: HostRuntime) -> Result<(), Fail> {
