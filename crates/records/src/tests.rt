@@ -59,37 +59,44 @@ fn a_record_of_a_large_floor_is_read(rt: HostRuntime) -> Result<(), Fail> {
 }
 
 #[test]
-fn other_lines_are_refused(rt: HostRuntime) -> Result<(), Fail> {
-    let cases: [(usize, &[u8], u32, u32, u32); 18] = [
-        (0, b"", 21, 1, 1),
+fn other_first_lines_are_refused(rt: HostRuntime) -> Result<(), Fail> {
+    let cases: [(&[u8], u32, u32); 5] = [
+        (b"", 21, 1),
         (
-            0,
             b"SITE         2         1         0         1         4         1\n",
             21,
             1,
-            1,
         ),
         (
-            0,
             b"PATH         2         1         0         1         4        01\n",
             22,
-            1,
             55,
         ),
         (
-            0,
             b"PATH         2         1         0         1         5         1\n",
             24,
-            1,
             45,
         ),
         (
-            0,
             b"PATH         2        65         0         1         4         1\n",
-            1,
             1,
             15,
         ),
+    ];
+    for (other, number, column) in cases {
+        let expected = Report {
+            number,
+            line: 1,
+            column,
+        };
+        assert_eq!(rt; report(rt.alloc(), 0, other)?, expected);
+    }
+    Ok(())
+}
+
+#[test]
+fn other_lines_below_are_refused(rt: HostRuntime) -> Result<(), Fail> {
+    let cases: [(usize, &[u8], u32, u32, u32); 13] = [
         (1, b"         0         0\n", 20, 2, 21),
         (1, b"         1         0         0\n", 31, 2, 1),
         (1, b"         0         1         0\n", 31, 2, 11),
