@@ -1,5 +1,5 @@
 -- When a call is refused, and that the plain drive refuses it too.
-use Rattle.std.proofs.Common.{◌≡◌, ℕ, zero, suc, ◌≤◌, false, Some, None, Ok, Err, Option, refl, arith, le-ltb}
+use Rattle.std.proofs.Common.{◌≡◌, ℕ, zero, suc, ◌<◌, ◌≤◌, false, Some, None, Ok, Err, Option, refl, arith, le-ltb}
 use Rattle.std.specs.Option.{option_or}
 use Rattle.std.proofs.lemmas.Grind.{common_steps}
 use Rattle.model.specs.declared.Phase.{Phase}
@@ -32,6 +32,10 @@ module _ {G : Type 0} (d : Drive G) (k : Call) (lent : Lent) (size : ℕ) where
   -- an accepted call has a record for each cell
   pub enough : (cells : ℕ) → cells ≡ size → Ok tt ≡ allowed (call_refusal d k lent size) → cells ≤ lent.records
   enough cells e ok = grind (arith, common_steps)
+
+  -- a call that is lent a queue is accepted only if the queue has room
+  pub has_room : (entries : ℕ) → lent.entries ≡ Some entries → Ok tt ≡ allowed (call_refusal d k lent size) → 0 < entries
+  has_room entries e ok = grind (arith, common_steps)
 
 -- a call that is not of its phase, or a think of no steps: the plain drive refuses it with the same number, and stays as it is
 module _ (w : World) (s : State w) where

@@ -16,7 +16,9 @@ use floor::Guide;
 use measure::Measure;
 use measure::queue::Entry;
 use model::Phase;
-use reconnect::state::Outcome;
+
+// What a think comes to, handed on so that a caller needs no other crate.
+pub use reconnect::state::Outcome;
 
 impl<G: Guide> Drive<G> {
     // How many steps were done, and how the search ended; where it goes on the steps are used up.

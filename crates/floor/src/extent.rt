@@ -84,8 +84,10 @@ impl Extent {
         if cell >= self.size() {
             return None;
         }
-        let column = column_way(direction).shift(self.column(cell), self.width)?;
-        let row = row_way(direction).shift(self.row(cell), self.height)?;
+        // Both are taken apart before either is shifted, so that a compiled loop over the directions divides once for all.
+        let (column, row) = (self.column(cell), self.row(cell));
+        let column = column_way(direction).shift(column, self.width)?;
+        let row = row_way(direction).shift(row, self.height)?;
         Some(row * self.width + column)
     }
 

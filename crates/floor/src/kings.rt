@@ -13,6 +13,8 @@ pub struct AllWays;
 pub type Kings = Squares<AllWays>;
 
 impl Steps for AllWays {
+    const NAME: &'static str = "Kings";
+
     ghost uses = { used };
 
     ghost far = { slanting };

@@ -9,10 +9,15 @@ ghost use Rattle.std.proofs.Common.{rules};
 use crate::directions::{facing, is_straight};
 use crate::extent::{Apart, Extent, SizeFault};
 use crate::{Lattice, Metric};
+use std::fmt;
+use std::fmt::{Debug, Formatter, Write};
 use std::marker::PhantomData;
 
 // Which directions are in use, and how far so many columns and rows are by steps in them.
 pub trait Steps {
+    // What the lattice is called where it is shown.
+    const NAME: &'static str = "Squares";
+
     ghost uses: { ℕ → Bool };
 
     ghost far: { ℕ → ℕ → ℕ };
@@ -28,10 +33,19 @@ pub trait Steps {
     ghost guides: { (w h goal : ℕ) → Sized w h → Guiding (on_floor uses w h) (towards_goal far w h goal) };
 }
 
-#[derive(Clone, Copy, Debug, PartialEq, Eq)]
+#[derive(Clone, Copy, PartialEq, Eq)]
 pub struct Squares<S> {
     pub extent: Extent,
     pub steps: PhantomData<S>,
+}
+
+// By hand, so that the lattice shows by its name, and without the marker of its type.
+impl<S: Steps> Debug for Squares<S> {
+    fn fmt<W: Write>(&self, f: &mut Formatter<W>) -> fmt::Result {
+        f.debug_struct(S::NAME)
+            .field("extent", &self.extent)
+            .finish()
+    }
 }
 
 impl<S> Squares<S> {
@@ -86,5 +100,29 @@ impl<S: Steps> Metric for Squares<S> {
     fn distance_to(&self, goal: u32, cell: u32) -> Option<u32> {
         let apart = self.extent.differences(cell, goal)?;
         Some(S::far(apart))
+    }
+}
+
+#[cfg(test)]
+mod tests {
+    use crate::kings::Kings;
+    use crate::streets::Streets;
+    use std::test::Fail;
+
+    #[test]
+    fn each_shows_by_its_name(rt: HostRuntime) -> Result<(), Fail> {
+        let kings = Kings::new(3, 2)?;
+        let shown = format!(in rt.alloc(); "{kings:?}")?;
+        assert_eq!(rt;
+            shown.as_str(),
+            "Kings { extent: Extent { width: 3, height: 2 } }"
+        );
+        let streets = Streets::new(3, 2)?;
+        let shown = format!(in rt.alloc(); "{streets:?}")?;
+        assert_eq!(rt;
+            shown.as_str(),
+            "Streets { extent: Extent { width: 3, height: 2 } }"
+        );
+        Ok(())
     }
 }

@@ -14,6 +14,8 @@ pub struct Straight;
 pub type Streets = Squares<Straight>;
 
 impl Steps for Straight {
+    const NAME: &'static str = "Streets";
+
     ghost uses = { λ d. used d && odd d };
 
     ghost far = { straight };
