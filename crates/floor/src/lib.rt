@@ -48,12 +48,11 @@ pub trait Guide: Lattice {
     {
         let own = self.distance(cell);
         let leads = |direction: &u8| {
-            let next = self
-                .beside(cell, *direction)
-                .and_then(|next| self.distance(next));
-            is_sum(own, next, self.cost(*direction))
+            let next = self.beside(cell, *direction);
+            next.is_some_and(|next| is_sum(own, self.distance(next), self.cost(*direction)))
         };
-        (1..=8).find(leads).unwrap_or(0)
+        // Half open: a search through an inclusive range also asks at each step whether it is used up.
+        (1..9).find(leads).unwrap_or(0)
     }
 
     ghost guiding: { (g : Self) → Guiding (Self.Lattice.grid g) (aim g) };

@@ -48,7 +48,7 @@ fn back_of<M: Copy>(stage: Stage<M>) -> u32
 fn towards<L: Lattice>(lattice: &L, from: u32, to: u32) -> u8
     ensures { result ≡ first_direction 8 (λ d. is ((L.Lattice.grid lattice.now).beside from d) to) }
 {
-    (1..=8)
+    (1..9)
         .find(|direction| lattice.beside(from, *direction) == Some(to))
         .unwrap_or(0)
 }

@@ -9,4 +9,4 @@ unfolding lead
 returns g c =
     let leads = nearer (g.Self.Lattice.grid c.args.self.now) (g.Self.Guide.aim c.args.self.now) c.args.cell in
     c.unwrap_or.ensures
-    ∙ found _ _ leads (λ d b k. search (rules, tests)) c.find.result (search rules) (search rules) (search rules) (λ a r q k. search rules) c.find.ensures.runs
+    ∙ found _ _ leads (λ d b k. search (rules, tests)) c.find.result (search rules) (search rules) (λ a r q k. search rules) c.find.ensures.runs
